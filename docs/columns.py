@@ -1,6 +1,6 @@
 #!/usr/bin/env python3
-"""Looks whether lines have at most 120 columns: those of pages, tables and what stands between fences apart, of the C
-and of the JavaScript.
+"""Looks whether lines have at most 120 columns: those of pages, tables and what stands between fences apart, of the
+crates, and of the C, the JavaScript and the Python.
 
 usage: docs/columns.py
 
@@ -15,8 +15,9 @@ from pathlib import Path
 
 TOP = Path(__file__).resolve().parent.parent
 MOST = 120
-FOLDERS = ("conformance", "docs", "examples", "include", "library", "linux", "web")
-PATTERNS = ("*.md", "*.c", "*.h", "*.js")
+FOLDERS = ("conformance", "docs", "examples", "include", "library", "linux", "web", *(
+    f"crates/{it.parent.name}/{it.name}" for part in ("src", "specs", "proofs") for it in TOP.glob(f"crates/*/{part}")))
+PATTERNS = ("*.md", "*.c", "*.h", "*.js", "*.py", "*.rt", "*.antt")
 
 
 def prose(text: str) -> Iterator[tuple[int, str]]:

@@ -1,5 +1,7 @@
 -- The story in a Blorb file (Blorb 2.0.4).
-use Rattle.std.specs.Prelude.{ℕ, zero, suc, ◌+◌, ◌*◌, ◌/◌, ◌==◌, ◌&&◌, Bool, List, [], ◌∷◌, length, take, drop, slice_index, slice_range, codes, nat_lt, if◌then◌else◌, Option, Some, None, Result, Ok, Err}
+use Rattle.std.specs.Prelude.{ℕ, zero, suc, ◌+◌, ◌*◌, ◌/◌, ◌==◌, ◌&&◌, Bool, List, [], ◌∷◌, length, take, drop}
+use Rattle.std.specs.Prelude.{slice_index, slice_range, codes, nat_lt, if◌then◌else◌, Option, Some, None, Result, Ok}
+use Rattle.std.specs.Prelude.{Err}
 use Rattle.std.specs.List.{find, starts_with}
 use Rattle.std.specs.Str.{bytes_eq}
 use Rattle.zk_blorb.specs.declared.story.BlorbError.{BlorbError}
@@ -20,8 +22,8 @@ number_of bs = 16777216 * slice_index bs 0 + 65536 * slice_index bs 1 + 256 * sl
 abbrev pub begins_as_blorb : List ℕ → Bool
 begins_as_blorb file = starts_with ◌==◌ file (codes "FORM") && starts_with ◌==◌ (drop 8 file) (codes "IFRS")
 
--- the form that a file begins with, from the file's beginning: 8 bytes and as many as the form's length says; what stands
--- after it does not count
+-- the form that a file begins with, from the file's beginning: 8 bytes and as many as the form's length says; what
+-- stands after it does not count
 unfoldable pub form_in : List ℕ → Result (List ℕ) BlorbError
 form_in file =
     let end = 8 + number_of (slice_range file 4 8) in
@@ -38,7 +40,10 @@ pub record Chunk : Type 0 where
 abbrev pub chunk_of : ℕ → ℕ → List ℕ → Option Chunk
 chunk_of size start form =
     if nat_lt (length form) (start + 8 + size) then None
-    else Some (record { kind = slice_range form start (start + 4); content = slice_range form (start + 8) (start + 8 + size) })
+    else Some (record {
+      kind = slice_range form start (start + 4);
+      content = slice_range form (start + 8) (start + 8 + size);
+    })
 
 -- the chunk at an offset of a form: its type, its length and its content; none where it goes past the form's end
 unfoldable pub chunk_at : List ℕ → ℕ → Option Chunk
@@ -55,7 +60,8 @@ counts_rows content = length content == 4 + 12 * number_of (take 4 content)
 -- the bytes of an index after its count
 abbrev pub index_of : Option Chunk → Result (List ℕ) BlorbError
 index_of None = Err CutOff
-index_of (Some c) = if bytes_eq c.kind (codes "RIdx") && counts_rows c.content then Ok (drop 4 c.content) else Err NoIndex
+index_of (Some c) =
+    if bytes_eq c.kind (codes "RIdx") && counts_rows c.content then Ok (drop 4 c.content) else Err NoIndex
 
 -- the bytes of the rows of a form's index, which is its first chunk
 unfoldable pub index_in : List ℕ → Result (List ℕ) BlorbError

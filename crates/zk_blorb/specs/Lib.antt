@@ -1,3 +1,3 @@
 pub mod Blorb
 pub mod Seen
-pub mod Examples
+pub mod guards

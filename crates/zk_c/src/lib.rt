@@ -1,4 +1,5 @@
-// Playing a story from C: what `library/raw.h` declares, on which `library/zkit.c` makes the functions of `include/zkit.h`.
+// Playing a story from C: what `library/raw.h` declares, on which `library/zkit.c` makes the functions of
+// `include/zkit.h`.
 #![tactic(auto)]
 
 ghost use Rattle.std.specs.Prelude.{◌≡◌, ◌∷◌, ◌==◌, [], List, ℕ, None, Some, not};
@@ -8,11 +9,13 @@ ghost use Rattle.zk_vm.specs.Sessions.{with_grid_forgotten};
 ghost use Rattle.zk_vm.specs.Answers.Answer.{Typed, GameKept, File};
 ghost use Rattle.zk_vm.specs.Plays.{codes_read};
 ghost use Rattle.zk_host.specs.Texts.{IsPutInFront, IsTaken};
-ghost use Rattle.zk_host.specs.Calls.{IsStatus, awaited, character_read, character_refused, line_refused, longest_snapshot, restore_refused, save_refused};
+ghost use Rattle.zk_host.specs.Calls.{IsStatus, awaited, character_read, character_refused, line_refused};
+ghost use Rattle.zk_host.specs.Calls.{longest_snapshot, restore_refused, save_refused};
 ghost use Rattle.zk_host.specs.Drawing.{longest_line, row_bytes, row_number, window_of};
 ghost use Rattle.zk_host.specs.Listings.{listing_numbered};
 ghost use Rattle.zk_host.specs.Numbers.{address_number, reason_number, status_number};
-ghost use Rattle.zk_host.specs.Exports.{IsAnswered, IsImaged, IsListed, IsOpened, IsOpenedAgain, IsSnapshotPut, IsTurn, IsUndo, OnPlay, facts_of, limits_said, view_if};
+ghost use Rattle.zk_host.specs.Exports.{IsAnswered, IsImaged, IsListed, IsOpened, IsOpenedAgain, IsSnapshotPut, IsTurn};
+ghost use Rattle.zk_host.specs.Exports.{IsUndo, OnPlay, facts_of, limits_said, view_if};
 
 use std::alloc::Global;
 use zk_host::drawing::{StatusFigures, WindowFigures};
@@ -33,6 +36,18 @@ const NOT_AWAITED: u32 = 1;
 
 /// A limit lies out of its range.
 const BAD_LIMIT: u32 = 7;
+
+// What the play of a handle answers; another answer is returned where the handle is not open.
+macro_rules! on_play {
+    ($alloc:ident, $game:ident, $none:expr, $play:ident => $does:expr) => {{
+        let Some(mut $play) = $game.take($alloc) else {
+            return $none;
+        };
+        let answer = $does;
+        $game.put($alloc, $play);
+        answer
+    }};
+}
 
 /// Opens a story at its start, in place of one that the handle may have: `Machine::start` of `zk_vm`. Answers 0, or why
 /// it is not opened: 1 to 6 are the numbers of `OpenError`, 7 a limit out of its range. Then the handle is as it was.
@@ -63,24 +78,19 @@ pub extern "C" fn zk_open(
     }
 }
 
-/// Runs the story up to its next event or its stop, for so many instructions at most and while fewer than `room` bytes of its
-/// text wait, which it collects: `run_for` of `zk_vm`. Answers what is awaited: 1 a line, 2 a character, 3 that a game is
-/// kept, 4 a saved game, 5 that text is taken, 6 another turn, 7 memory; 0 where the story has stopped.
+/// Runs the story up to its next event or its stop, for so many instructions at most and while fewer than `room` bytes
+/// of its text wait, which it collects: `run_for` of `zk_vm`. Answers what is awaited: 1 a line, 2 a character, 3 that
+/// a game is kept, 4 a saved game, 5 that text is taken, 6 another turn, 7 memory; 0 where the story has stopped.
 #[unsafe(no_mangle)]
 pub extern "C" fn zk_turn(alloc: Global, game: &mut Zkit, steps: u32, room: u32) -> u32
     ensures { OnPlay game.old.play game.new.play
         (λ old new. IsTurn old new steps room result) (result ≡ 0) }
 {
-    let Some(mut play) = game.take(alloc) else {
-        return 0;
-    };
-    let turned = play.turn(steps, room);
-    game.put(alloc, play);
-    turn_number(turned)
+    turn_number(on_play!(alloc, game, 0, play => play.turn(steps, room)))
 }
 
-/// Answers a read by a line, UTF-8 without its new line: `answer_line` of `zk_vm`. Answers 0, 1 where no line is awaited,
-/// or 2 where the bytes are no line.
+/// Answers a read by a line, UTF-8 without its new line: `answer_line` of `zk_vm`. Answers 0, 1 where no line is
+/// awaited, or 2 where the bytes are no line.
 #[unsafe(no_mangle)]
 pub extern "C" fn zk_line(alloc: Global, game: &mut Zkit, line: &[u8]) -> u32
     ensures { OnPlay game.old.play game.new.play
@@ -88,15 +98,11 @@ pub extern "C" fn zk_line(alloc: Global, game: &mut Zkit, line: &[u8]) -> u32
         (with_grid_forgotten old.machine) old new
         (Typed (codes_read old.machine line.now)) result) (result ≡ 1) }
 {
-    let Some(mut play) = game.take(alloc) else {
-        return NOT_AWAITED;
-    };
-    let answered = play.line(line);
-    game.put(alloc, play);
-    answer_number(answered)
+    answer_number(on_play!(alloc, game, NOT_AWAITED, play => play.line(line)))
 }
 
-/// Answers a read by a character, its number in Unicode: `answer_char` of `zk_vm`. Answers 0, or 1 where none is awaited.
+/// Answers a read by a character, its number in Unicode: `answer_char` of `zk_vm`. Answers 0, or 1 where none is
+/// awaited.
 #[unsafe(no_mangle)]
 pub extern "C" fn zk_character(alloc: Global, game: &mut Zkit, character: u32) -> u32
     ensures { OnPlay game.old.play game.new.play
@@ -104,16 +110,11 @@ pub extern "C" fn zk_character(alloc: Global, game: &mut Zkit, character: u32) -
         (with_grid_forgotten old.machine) old new
         (Typed (character_read old.machine character ∷ [])) result) (result ≡ 1) }
 {
-    let Some(mut play) = game.take(alloc) else {
-        return NOT_AWAITED;
-    };
-    let answered = play.character(character);
-    game.put(alloc, play);
-    answer_number(answered)
+    answer_number(on_play!(alloc, game, NOT_AWAITED, play => play.character(character)))
 }
 
-/// Takes text of the screen, UTF-8, from the front into a buffer. Answers how many bytes: 0 where none are left. What is
-/// behind them in the buffer stays as it was.
+/// Takes text of the screen, UTF-8, from the front into a buffer. Answers how many bytes: 0 where none are left. What
+/// is behind them in the buffer stays as it was.
 #[unsafe(no_mangle)]
 pub extern "C" fn zk_text(alloc: Global, game: &mut Zkit, buffer: &mut [u8]) -> usize
     ensures { OnPlay game.old.play game.new.play
@@ -121,16 +122,11 @@ pub extern "C" fn zk_text(alloc: Global, game: &mut Zkit, buffer: &mut [u8]) -> 
         × (new ≡ record old { text = record old.text { screen = new.text.screen } }))
         ((result ≡ 0) × (buffer.new ≡ buffer.old)) }
 {
-    let Some(mut play) = game.take(alloc) else {
-        return 0;
-    };
-    let count = play.take_text(buffer);
-    game.put(alloc, play);
-    count
+    on_play!(alloc, game, 0, play => play.take_text(buffer))
 }
 
-/// Takes text of the transcript, UTF-8, from the front into a buffer. Answers how many bytes: 0 where none are left. What is
-/// behind them in the buffer stays as it was.
+/// Takes text of the transcript, UTF-8, from the front into a buffer. Answers how many bytes: 0 where none are left.
+/// What is behind them in the buffer stays as it was.
 #[unsafe(no_mangle)]
 pub extern "C" fn zk_transcript(alloc: Global, game: &mut Zkit, buffer: &mut [u8]) -> usize
     ensures { OnPlay game.old.play game.new.play
@@ -138,16 +134,11 @@ pub extern "C" fn zk_transcript(alloc: Global, game: &mut Zkit, buffer: &mut [u8
         × (new ≡ record old { text = record old.text { script = new.text.script } }))
         ((result ≡ 0) × (buffer.new ≡ buffer.old)) }
 {
-    let Some(mut play) = game.take(alloc) else {
-        return 0;
-    };
-    let count = play.take_script(buffer);
-    game.put(alloc, play);
-    count
+    on_play!(alloc, game, 0, play => play.take_script(buffer))
 }
 
-/// Copies the saved game that waits to be kept to the front of a buffer, and its length in bytes to `length`: `image` of
-/// `zk_vm`. Answers 0, 1 where none is to be kept, 3 where the buffer is shorter, or 4 where there is no memory.
+/// Copies the saved game that waits to be kept to the front of a buffer, and its length in bytes to `length`: `image`
+/// of `zk_vm`. Answers 0, 1 where none is to be kept, 3 where the buffer is shorter, or 4 where there is no memory.
 #[tactic(auto, using(zk_host::proofs::Exporting::not_imaged))]
 #[unsafe(no_mangle)]
 pub extern "C" fn zk_image(
@@ -161,21 +152,16 @@ pub extern "C" fn zk_image(
         length.old length.new result)
         ((result ≡ 1) × (buffer.new ≡ buffer.old) × (length.new ≡ length.old)) }
 {
-    let Some(play) = game.take(alloc) else {
-        return NOT_AWAITED;
-    };
-    let image = play.image(alloc);
-    game.put(alloc, play);
-    match image {
+    match on_play!(alloc, game, NOT_AWAITED, play => play.image(alloc)) {
         Ok(file) => put_file(file.as_slice(), buffer, length),
         Err(refusal) => refused_number(refusal),
     }
 }
 
-/// Copies the snapshot of a play that waits for a line or a character to the front of a buffer, and its length in bytes to
-/// `length`: `snapshot` of `zk_snapshot`, with as many of the newest states to go back to as fit in `undo_bytes`. Text that
-/// was not taken is not in it. Answers 0, 1 where nothing of the kind is awaited, 3 where the buffer is shorter, or 4 where
-/// there is no memory.
+/// Copies the snapshot of a play that waits for a line or a character to the front of a buffer, and its length in bytes
+/// to `length`: `snapshot` of `zk_snapshot`, with as many of the newest states to go back to as fit in `undo_bytes`.
+/// Text that was not taken is not in it. Answers 0, 1 where nothing of the kind is awaited, 3 where the buffer is
+/// shorter, or 4 where there is no memory.
 #[unsafe(no_mangle)]
 pub extern "C" fn zk_take_snapshot(
     alloc: Global,
@@ -188,12 +174,7 @@ pub extern "C" fn zk_take_snapshot(
         IsSnapshotPut old new undo_bytes buffer.old buffer.new length.old length.new result)
         ((result ≡ 1) × (buffer.new ≡ buffer.old) × (length.new ≡ length.old)) }
 {
-    let Some(play) = game.take(alloc) else {
-        return NOT_AWAITED;
-    };
-    let snapshot = play.snapshot(alloc, undo_bytes);
-    game.put(alloc, play);
-    match snapshot {
+    match on_play!(alloc, game, NOT_AWAITED, play => play.snapshot(alloc, undo_bytes)) {
         Ok(bytes) => put_file(bytes.as_slice(), buffer, length),
         Err(refusal) => refused_number(refusal),
     }
@@ -206,19 +187,14 @@ pub extern "C" fn zk_longest_snapshot(alloc: Global, game: &mut Zkit, undo_bytes
     ensures { OnPlay game.old.play game.new.play (λ old new. (new ≡ old)
         × (result ≡ longest_snapshot old undo_bytes)) (result ≡ 0) }
 {
-    let Some(play) = game.take(alloc) else {
-        return 0;
-    };
-    let longest = play.longest_snapshot(undo_bytes);
-    game.put(alloc, play);
-    longest
+    on_play!(alloc, game, 0, play => play.longest_snapshot(undo_bytes))
 }
 
-/// Opens a play that goes on from a snapshot of a story, in place of one that the handle may have, where the snapshot's limits
-/// are at most these: `open_snapshot` of `zk_snapshot`. Answers 0, or why it is not opened: 7 where one of these lies out of
-/// its range, else 1 to 6 as `zk_open`, else 8 to 11 since the bytes are no snapshot, one of another version or another
-/// story, or damaged, else 7 where one of its limits is greater; 6 may come in place of 7 to 11. Then the handle is as it
-/// was.
+/// Opens a play that goes on from a snapshot of a story, in place of one that the handle may have, where the snapshot's
+/// limits are at most these: `open_snapshot` of `zk_snapshot`. Answers 0, or why it is not opened: 7 where one of these
+/// lies out of its range, else 1 to 6 as `zk_open`, else 8 to 11 since the bytes are no snapshot, one of another
+/// version or another story, or damaged, else 7 where one of its limits is greater; 6 may come in place of 7 to 11.
+/// Then the handle is as it was.
 #[unsafe(no_mangle)]
 pub extern "C" fn zk_open_snapshot(
     alloc: Global,
@@ -253,12 +229,7 @@ pub extern "C" fn zk_saved(alloc: Global, game: &mut Zkit, kept: u32) -> u32
         (λ old new. IsAnswered (save_refused (awaited old)) old.machine old new
         (GameKept (not (kept == 0))) result) (result ≡ 1) }
 {
-    let Some(mut play) = game.take(alloc) else {
-        return NOT_AWAITED;
-    };
-    let answered = play.save(kept != 0);
-    game.put(alloc, play);
-    answer_number(answered)
+    answer_number(on_play!(alloc, game, NOT_AWAITED, play => play.save(kept != 0)))
 }
 
 /// Answers by the file of a saved game: `answer_restore` of `zk_vm`. Answers 0, or 1 where none is awaited.
@@ -268,12 +239,7 @@ pub extern "C" fn zk_restore(alloc: Global, game: &mut Zkit, file: &[u8]) -> u32
         (λ old new. IsAnswered (restore_refused (awaited old)) old.machine old new
         (File (Some file.now)) result) (result ≡ 1) }
 {
-    let Some(mut play) = game.take(alloc) else {
-        return NOT_AWAITED;
-    };
-    let answered = play.restore(Some(file));
-    game.put(alloc, play);
-    answer_number(answered)
+    answer_number(on_play!(alloc, game, NOT_AWAITED, play => play.restore(Some(file))))
 }
 
 /// Answers that there is no saved game: `answer_restore` of `zk_vm`. Answers 0, or 1 where none is awaited.
@@ -284,12 +250,7 @@ pub extern "C" fn zk_restore_none(alloc: Global, game: &mut Zkit) -> u32
         result)
         (result ≡ 1) }
 {
-    let Some(mut play) = game.take(alloc) else {
-        return NOT_AWAITED;
-    };
-    let answered = play.restore(None);
-    game.put(alloc, play);
-    answer_number(answered)
+    answer_number(on_play!(alloc, game, NOT_AWAITED, play => play.restore(None)))
 }
 
 /// Why the story has stopped, by what the last turn found: 1 its end, 2 a fault, 3 a limit, 4 its input (which these
@@ -322,18 +283,13 @@ pub extern "C" fn zk_address(alloc: Global, game: &mut Zkit) -> u32
     address_number(game.stopped(alloc))
 }
 
-/// Goes back to the newest state that the story has kept, in place of an answer to a read: `go_back` of `zk_vm`. Answers 0,
-/// 1 where no line or character is awaited, or 5 where there is no state.
+/// Goes back to the newest state that the story has kept, in place of an answer to a read: `go_back` of `zk_vm`.
+/// Answers 0, 1 where no line or character is awaited, or 5 where there is no state.
 #[unsafe(no_mangle)]
 pub extern "C" fn zk_undo(alloc: Global, game: &mut Zkit) -> u32
     ensures { OnPlay game.old.play game.new.play (λ old new. IsUndo old new result) (result ≡ 1) }
 {
-    let Some(mut play) = game.take(alloc) else {
-        return NOT_AWAITED;
-    };
-    let gone = play.go_back();
-    game.put(alloc, play);
-    answer_number(gone)
+    answer_number(on_play!(alloc, game, NOT_AWAITED, play => play.go_back()))
 }
 
 /// The most letters of the line that is awaited; 0 where none is.
@@ -342,12 +298,7 @@ pub extern "C" fn zk_longest_line(alloc: Global, game: &mut Zkit) -> u32
     ensures { OnPlay game.old.play game.new.play (λ old new. (new ≡ old)
         × (result ≡ longest_line old.machine.state.game.memory (awaited old))) (result ≡ 0) }
 {
-    let Some(play) = game.take(alloc) else {
-        return 0;
-    };
-    let longest = play.longest_line();
-    game.put(alloc, play);
-    longest as u32
+    on_play!(alloc, game, 0, play => play.longest_line()) as u32
 }
 
 /// Tells how the upper window stands: its height, the height of the tallest grid since the last answer to a read, the
@@ -358,15 +309,11 @@ pub extern "C" fn zk_window(alloc: Global, game: &mut Zkit, window: &mut WindowF
         (λ old new. (new ≡ old) × (window.new ≡ window_of old.machine.state.game.windows))
         (window.new ≡ window.old) }
 {
-    let Some(play) = game.take(alloc) else {
-        return;
-    };
-    *window = play.window();
-    game.put(alloc, play);
+    *window = on_play!(alloc, game, (), play => play.window());
 }
 
-/// Puts the UTF-8 of a row of the upper window, from 1 on, at the front of a buffer, as much of it as there is room for.
-/// Answers how many bytes.
+/// Puts the UTF-8 of a row of the upper window, from 1 on, at the front of a buffer, as much of it as there is room
+/// for. Answers how many bytes.
 #[unsafe(no_mangle)]
 pub extern "C" fn zk_row(alloc: Global, game: &mut Zkit, row: u32, buffer: &mut [u8]) -> usize
     ensures { OnPlay game.old.play game.new.play (λ old new. (new ≡ old) × IsPutInFront
@@ -374,12 +321,10 @@ pub extern "C" fn zk_row(alloc: Global, game: &mut Zkit, row: u32, buffer: &mut 
         buffer.new result)
         ((result ≡ 0) × (buffer.new ≡ buffer.old)) }
 {
-    let Some(play) = game.take(alloc) else {
-        return 0;
-    };
-    let bytes = play.row(row);
-    game.put(alloc, play);
-    put_front(bytes.as_slice(), buffer)
+    put_front(
+        on_play!(alloc, game, 0, play => play.row(row)).as_slice(),
+        buffer,
+    )
 }
 
 /// The same for a row of the tallest grid since the last answer to a read.
@@ -395,12 +340,10 @@ pub extern "C" fn zk_tallest_row(
         buffer.new result)
         ((result ≡ 0) × (buffer.new ≡ buffer.old)) }
 {
-    let Some(play) = game.take(alloc) else {
-        return 0;
-    };
-    let bytes = play.tallest_row(row);
-    game.put(alloc, play);
-    put_front(bytes.as_slice(), buffer)
+    put_front(
+        on_play!(alloc, game, 0, play => play.tallest_row(row)).as_slice(),
+        buffer,
+    )
 }
 
 /// Tells the figures of the status line of a story of version 3, and collects its name, which `zk_status_name` takes.
@@ -409,15 +352,11 @@ pub extern "C" fn zk_figures(alloc: Global, game: &mut Zkit, figures: &mut Statu
     ensures { OnPlay game.old.play game.new.play (λ old new. IsStatus old new figures.new)
         (figures.new ≡ figures.old) }
 {
-    let Some(mut play) = game.take(alloc) else {
-        return;
-    };
-    *figures = play.status(alloc);
-    game.put(alloc, play);
+    *figures = on_play!(alloc, game, (), play => play.status(alloc));
 }
 
-/// Takes text of the name in the status line, UTF-8, from the front into a buffer. Answers how many bytes: 0 where none are
-/// left.
+/// Takes text of the name in the status line, UTF-8, from the front into a buffer. Answers how many bytes: 0 where none
+/// are left.
 #[unsafe(no_mangle)]
 pub extern "C" fn zk_status_name(alloc: Global, game: &mut Zkit, buffer: &mut [u8]) -> usize
     ensures { OnPlay game.old.play game.new.play
@@ -425,12 +364,7 @@ pub extern "C" fn zk_status_name(alloc: Global, game: &mut Zkit, buffer: &mut [u
         × (new ≡ record old { name = record old.name { screen = new.name.screen } }))
         ((result ≡ 0) × (buffer.new ≡ buffer.old)) }
 {
-    let Some(mut play) = game.take(alloc) else {
-        return 0;
-    };
-    let count = play.take_name(buffer);
-    game.put(alloc, play);
-    count
+    on_play!(alloc, game, 0, play => play.take_name(buffer))
 }
 
 /// Tells version, release and checksum that a story's file says, and puts its serial number at the front of a buffer.
@@ -448,16 +382,13 @@ pub extern "C" fn zk_facts(
         result)
         ((result ≡ 0) × (facts.new ≡ facts.old) × (buffer.new ≡ buffer.old)) }
 {
-    let Some(play) = game.take(alloc) else {
-        return 0;
-    };
-    let header = play.header();
-    game.put(alloc, play);
+    let header = on_play!(alloc, game, 0, play => play.header());
     *facts = facts_of(&header);
     put_front(&header.serial, buffer)
 }
 
-/// Puts the words for a status and its reason at the front of a buffer, as many bytes as there is room for. Answers how many.
+/// Puts the words for a status and its reason at the front of a buffer, as many bytes as there is room for. Answers how
+/// many.
 #[unsafe(no_mangle)]
 pub extern "C" fn zk_text_of_reason(status: u32, reason: u32, buffer: &mut [u8]) -> usize
     ensures { (bytes : List ℕ) × IsPutInFront bytes buffer.old buffer.new result }
@@ -465,8 +396,8 @@ pub extern "C" fn zk_text_of_reason(status: u32, reason: u32, buffer: &mut [u8])
     put_front(words(status, reason).as_bytes(), buffer)
 }
 
-/// Puts the words for why `zk_open` or `zk_open_snapshot` opens nothing at the front of a buffer, as many bytes as there is
-/// room for. Answers how many.
+/// Puts the words for why `zk_open` or `zk_open_snapshot` opens nothing at the front of a buffer, as many bytes as
+/// there is room for. Answers how many.
 #[unsafe(no_mangle)]
 pub extern "C" fn zk_text_of_open(reason: u32, buffer: &mut [u8]) -> usize
     ensures { (bytes : List ℕ) × IsPutInFront bytes buffer.old buffer.new result }
@@ -474,8 +405,8 @@ pub extern "C" fn zk_text_of_open(reason: u32, buffer: &mut [u8]) -> usize
     put_front(words_on_open(reason).as_bytes(), buffer)
 }
 
-/// Lists the story's file in at most so many bytes, for `zk_listing`. Answers 0, 1 where there is no such listing, 4 where
-/// there is no memory, or 6 where it has more bytes. Where it is refused, nothing is left of an earlier listing.
+/// Lists the story's file in at most so many bytes, for `zk_listing`. Answers 0, 1 where there is no such listing, 4
+/// where there is no memory, or 6 where it has more bytes. Where it is refused, nothing is left of an earlier listing.
 #[unsafe(no_mangle)]
 pub extern "C" fn zk_list(alloc: Global, game: &mut Zkit, listing: u32, most: usize) -> u32
     ensures { OnPlay game.old.play game.new.play
@@ -502,12 +433,7 @@ pub extern "C" fn zk_listing(alloc: Global, game: &mut Zkit, buffer: &mut [u8]) 
         × (new ≡ record old { listing = new.listing }))
         ((result ≡ 0) × (buffer.new ≡ buffer.old)) }
 {
-    let Some(mut play) = game.take(alloc) else {
-        return 0;
-    };
-    let count = play.take_listing(buffer);
-    game.put(alloc, play);
-    count
+    on_play!(alloc, game, 0, play => play.take_listing(buffer))
 }
 
 /// Gives back the memory of a handle, which is not open then.

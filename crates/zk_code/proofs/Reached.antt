@@ -6,7 +6,8 @@ use Rattle.zk_mem.specs.Map.{MemoryMap}
 use Rattle.zk_code.specs.Reach.{IsReachedFrom, IsClosed, ReachIsLeast}
 use Rattle.zk_code.specs.Reach.IsReachedFrom.{Root, Behind, Branches, Jumps, Calls}
 
-pub in_closed : (m : MemoryMap) (roots : List ℕ) (P : ℕ → Type 0) → IsClosed m roots P → (a : ℕ) → IsReachedFrom m roots a → P a
+pub in_closed : (m : MemoryMap) (roots : List ℕ) (P : ℕ → Type 0) → IsClosed m roots P → (a : ℕ)
+    → IsReachedFrom m roots a → P a
 in_closed m roots P k _ (Root a h) = k.roots a h
 in_closed m roots P k _ (Behind a b i r s g) = k.behind a b i (in_closed m roots P k a r) s g
 in_closed m roots P k _ (Branches a b c i r s g) = k.branches a b c i (in_closed m roots P k a r) s g
@@ -24,4 +25,5 @@ pub has_one : (a : ℕ) → Contains (a ∷ []) a
 has_one a = (zero, omega arith, refl)
 
 pub only_one : (P : ℕ → Type 0) (a : ℕ) → P a → (b : ℕ) → Contains (a ∷ []) b → P b
-only_one P a p b h = elim (Contains-push_cases [] a b h) [ inl old ↦ absurd (let lt = old.1 in omega arith) | inr e ↦ subst P e p ]
+only_one P a p b h =
+    elim (Contains-push_cases [] a b h) [ inl old ↦ absurd (let lt = old.1 in omega arith) | inr e ↦ subst P e p ]

@@ -1,4 +1,5 @@
--- Code that no run leaves and none rewrites, as far as what stands in the instructions tells it (Standard, sections 1.1.1,
+-- Code that no run leaves and none rewrites, as far as what stands in the instructions tells it (Standard, sections
+-- 1.1.1,
 -- 4.7, 5.2, 6.4 and 15).
 use Rattle.std.specs.Prelude.{◌≡◌, ◌<◌, ◌⊎◌, ℕ, Bool, ◌&&◌, ◌||◌, Some, None, is_none}
 use Rattle.zk_mem.specs.Map.{MemoryMap}
@@ -23,8 +24,8 @@ LeadsOut m i =
     ⊎ (((t : BranchTarget) × (constant_jump m i ≡ Some t) × IsOutside t)
     ⊎ ((r : ℕ) × (constant_call m i ≡ Some r) × (count_at m r ≡ None)))
 
--- what the instruction at an address does may be rewritten: its first byte lies in dynamic memory, or the count of local
--- variables of a routine that it calls by a constant does (sections 1.1.1 and 5.2)
+-- what the instruction at an address does may be rewritten: its first byte lies in dynamic memory, or the count of
+-- local variables of a routine that it calls by a constant does (sections 1.1.1 and 5.2)
 abbrev pub IsLow : MemoryMap → ℕ → Instr → Type 0
 IsLow m a i = (a < m.static_base) ⊎ ((r : ℕ) × (constant_call m i ≡ Some r) × (r < m.static_base))
 
@@ -32,8 +33,8 @@ IsLow m a i = (a < m.static_base) ⊎ ((r : ℕ) × (constant_call m i ≡ Some 
 unfoldable pub leads_by_variable : Instr → Bool
 leads_by_variable i = (is_call i.opcode || is_jump i.opcode) && is_none (first_constant i.operands)
 
--- addresses that have the first instruction and each way on; at each of them stands an instruction, which does not lead out
--- of the story, and which no run rewrites
+-- addresses that have the first instruction and each way on; at each of them stands an instruction, which does not lead
+-- out of the story, and which no run rewrites
 pub record IsClean (m : MemoryMap) (P : ℕ → Type 0) : Type 0 where
   pub closed : IsClosed m (first_alone m) P
   pub decodes : (a : ℕ) → P a → (i : Instr) × IsInstruction m a i i.next

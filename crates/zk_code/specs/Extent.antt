@@ -1,5 +1,5 @@
--- Where code ends, and which routine stands after it (Standard, sections 1.2.3, 4.7, 5.2 and 5.3). That a routine stands
--- after other code says nothing about runs.
+-- Where code ends, and which routine stands after it (Standard, sections 1.2.3, 4.7, 5.2 and 5.3). That a routine
+-- stands after other code says nothing about runs.
 use Rattle.std.specs.Prelude.{◌≡◌, ◌≤◌, ◌<◌, ◌+◌, ◌-◌, ◌*◌, ◌/◌, ◌⊎◌, ℕ, false, List, [], ◌∷◌, Some}
 use Rattle.zk_mem.specs.Header.{unit_length}
 use Rattle.zk_mem.specs.Map.{MemoryMap}
@@ -13,7 +13,8 @@ use Rattle.zk_code.specs.Routines.{code_start}
 -- instructions one after another, from an address up to another
 pub data IsStraight (m : MemoryMap) : ℕ → List Instr → ℕ → Type 0 where
   Nothing : (a : ℕ) → IsStraight m a [] a
-  Then : (a b c : ℕ) (i : Instr) (is : List Instr) → IsInstruction m a i b → IsStraight m b is c → IsStraight m a (i ∷ is) c
+  Then : (a b c : ℕ) (i : Instr) (is : List Instr) → IsInstruction m a i b → IsStraight m b is c
+      → IsStraight m a (i ∷ is) c
 
 -- the branch of an instruction, or its jump by a constant, leads to an address in the story (section 4.7)
 abbrev pub LeadsTo : MemoryMap → Instr → ℕ → Type 0
@@ -28,8 +29,8 @@ abbrev pub LeadBelow : MemoryMap → ℕ → List Instr → Type 0
 LeadBelow m e [] = Unit {0}
 LeadBelow m e (i ∷ is) = LeadsBelow m e i × LeadBelow m e is
 
--- code from an address up to another may end there: its last instruction does not go on, and none of its own leads there or
--- past it
+-- code from an address up to another may end there: its last instruction does not go on, and none of its own leads
+-- there or past it
 pub record MayEnd (m : MemoryMap) (a e : ℕ) : Type 0 where
   pub code : List Instr
   pub at : ℕ

@@ -9,7 +9,4 @@ pub mod Routines
 pub mod Reach
 pub mod Extent
 pub mod Clean
-pub mod Examples
-pub mod ReachExamples
-pub mod ExtentExamples
-pub mod CleanExamples
+pub mod guards

@@ -1,5 +1,6 @@
 -- Reachable code: where a run comes to by what stands in the instructions (Standard, sections 4.7, 5 and 15).
-use Rattle.std.specs.Prelude.{◌≡◌, ℕ, ◌==◌, Bool, true, false, List, [], ◌∷◌, length, Option, Some, None, option_map, option_and_then, if◌then◌else◌}
+use Rattle.std.specs.Prelude.{◌≡◌, ℕ, ◌==◌, Bool, true, false, List, [], ◌∷◌, length, Option, Some, None, option_map}
+use Rattle.std.specs.Prelude.{option_and_then, if◌then◌else◌}
 use Rattle.std.specs.List.{Contains}
 use Rattle.zk_mem.specs.Header.{header_of, unpacked}
 use Rattle.zk_mem.specs.Map.{MemoryMap}
@@ -69,7 +70,8 @@ is_jump _ = false
 
 -- where a `jump` by a constant leads (section 15, `jump`)
 unfoldable pub constant_jump : MemoryMap → Instr → Option BranchTarget
-constant_jump m i = if is_jump i.opcode then option_map (jump_target (length m.bytes) i.next) (first_constant i.operands) else None
+constant_jump m i =
+    if is_jump i.opcode then option_map (jump_target (length m.bytes) i.next) (first_constant i.operands) else None
 
 -- the same, where that is an address in the story
 unfoldable pub jump_address : MemoryMap → Instr → Option ℕ
@@ -90,15 +92,19 @@ constant_call m i = if is_call i.opcode then option_and_then (called_at m) (firs
 
 -- ---- what is reached
 
--- an address is reached from some: it is one of them, or comes from an instruction at one that is reached, up to b: what
--- stands after it, where its branch leads, where it jumps to by a constant, and the first instruction of a routine that it
--- calls by a constant
+-- an address is reached from some: it is one of them, or comes from an instruction at one that is reached, up to b:
+-- what stands after it, where its branch leads, where it jumps to by a constant, and the first instruction of a routine
+-- that it calls by a constant
 pub data IsReachedFrom (m : MemoryMap) (roots : List ℕ) : ℕ → Type 0 where
   Root : (a : ℕ) → Contains roots a → IsReachedFrom m roots a
-  Behind : (a b : ℕ) (i : Instr) → IsReachedFrom m roots a → IsInstruction m a i b → goes_on i.opcode ≡ true → IsReachedFrom m roots b
-  Branches : (a b c : ℕ) (i : Instr) → IsReachedFrom m roots a → IsInstruction m a i b → branch_address i ≡ Some c → IsReachedFrom m roots c
-  Jumps : (a b c : ℕ) (i : Instr) → IsReachedFrom m roots a → IsInstruction m a i b → jump_address m i ≡ Some c → IsReachedFrom m roots c
-  Calls : (a b r c : ℕ) (i : Instr) → IsReachedFrom m roots a → IsInstruction m a i b → constant_call m i ≡ Some r → code_start m r ≡ Some c → IsReachedFrom m roots c
+  Behind : (a b : ℕ) (i : Instr) → IsReachedFrom m roots a → IsInstruction m a i b → goes_on i.opcode ≡ true
+      → IsReachedFrom m roots b
+  Branches : (a b c : ℕ) (i : Instr) → IsReachedFrom m roots a → IsInstruction m a i b → branch_address i ≡ Some c
+      → IsReachedFrom m roots c
+  Jumps : (a b c : ℕ) (i : Instr) → IsReachedFrom m roots a → IsInstruction m a i b → jump_address m i ≡ Some c
+      → IsReachedFrom m roots c
+  Calls : (a b r c : ℕ) (i : Instr) → IsReachedFrom m roots a → IsInstruction m a i b → constant_call m i ≡ Some r
+      → code_start m r ≡ Some c → IsReachedFrom m roots c
 
 -- there is a routine at an address, and an instruction that is reached calls it by a constant
 pub record IsCalledFrom (m : MemoryMap) (roots : List ℕ) (r : ℕ) : Type 0 where
@@ -131,7 +137,8 @@ pub record IsClosed (m : MemoryMap) (from : List ℕ) (P : ℕ → Type 0) : Typ
   pub behind : (a b : ℕ) (i : Instr) → P a → IsInstruction m a i b → goes_on i.opcode ≡ true → P b
   pub branches : (a b c : ℕ) (i : Instr) → P a → IsInstruction m a i b → branch_address i ≡ Some c → P c
   pub jumps : (a b c : ℕ) (i : Instr) → P a → IsInstruction m a i b → jump_address m i ≡ Some c → P c
-  pub calls : (a b r c : ℕ) (i : Instr) → P a → IsInstruction m a i b → constant_call m i ≡ Some r → code_start m r ≡ Some c → P c
+  pub calls : (a b r c : ℕ) (i : Instr) → P a → IsInstruction m a i b → constant_call m i ≡ Some r
+      → code_start m r ≡ Some c → P c
 
 -- what is reached from some is the least of these: it is one, and it lies in each that a test decides
 abbrev pub ReachIsLeast : Type 0

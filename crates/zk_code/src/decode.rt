@@ -5,7 +5,8 @@ ghost use Rattle.zk_mem.specs.declared.fault.Fault.{Fault};
 ghost use Rattle.zk_code.specs.declared.instr.Instr.{Instr};
 ghost use Rattle.zk_code.specs.Grammar.{IsInstruction, IsRefusal};
 ghost use Rattle.zk_code.specs.Ends.{AreEnds, KnowsEnds};
-ghost use Rattle.zk_code.specs.Reading.{operand_at, operands_at, store_at, branch_by, branch_here, branch_at, text_at, instr_at};
+ghost use Rattle.zk_code.specs.Reading.{operand_at, operands_at, store_at, branch_by, branch_here, branch_at, text_at};
+ghost use Rattle.zk_code.specs.Reading.{instr_at};
 
 use crate::branch::{Branch, target_of_branch};
 use crate::bytes::{read_byte, read_word};
@@ -45,7 +46,7 @@ fn read_operand(
 }
 
 /// Puts the operands of some types, which stand from a byte address on, into a list: the address after them.
-#[tactic(auto, using(crate::proofs::OperandSteps::loop_step, crate::proofs::OperandSteps::loop_stop, crate::proofs::OperandSteps::loop_fault, crate::proofs::OperandSteps::loop_end))]
+#[tactic(auto, using(crate::proofs::OperandSteps::of_read_operands))]
 #[inline(never)]
 fn read_operands(
     memory: &Memory,
@@ -224,8 +225,8 @@ pub fn decode(memory: &Memory, address: u32) -> Result<Instr, Fault>
     read_instr(memory, &[], address)
 }
 
-/// The instruction at an address, as `decode` has it, by what is known of where texts end: so a text is not read to its end
-/// for each instruction that it belongs to.
+/// The instruction at an address, as `decode` has it, by what is known of where texts end: so a text is not read to its
+/// end for each instruction that it belongs to.
 #[tactic(auto, using(crate::proofs::Whole::is_found, crate::proofs::Whole::is_only, crate::proofs::Cut::is_refused))]
 pub fn decode_by(memory: &Memory, ends: &TextEnds, address: u32) -> Result<Instr, Fault>
     requires { KnowsEnds memory.now ends.now }

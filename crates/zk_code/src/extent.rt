@@ -33,9 +33,9 @@ fn past_targets(memory: &Memory, instr: &Instr, address: u64) -> u64
     past_target(past, instr.jump_address(memory))
 }
 
-/// The address after the code that begins at another one, where it has an end: the least address after an instruction that
-/// does not go on, past which none of the branches and of the jumps by a constant of the code leads (Z-Machine Standards
-/// Document 1.1, sections 4.7 and 15). There is none where an instruction before it can't be decoded.
+/// The address after the code that begins at another one, where it has an end: the least address after an instruction
+/// that does not go on, past which none of the branches and of the jumps by a constant of the code leads (Z-Machine
+/// Standards Document 1.1, sections 4.7 and 15). There is none where an instruction before it can't be decoded.
 pub fn extent(memory: &Memory, ends: &TextEnds, start: u32) -> Option<u32>
     requires { KnowsEnds memory.now ends.now }
     ensures found { IfSome result (IsExtent memory.now start) }
@@ -57,7 +57,8 @@ pub fn extent(memory: &Memory, ends: &TextEnds, start: u32) -> Option<u32>
     None
 }
 
-/// The least byte address at or after another that a packed address stands for (Z-Machine Standards Document 1.1, section
+/// The least byte address at or after another that a packed address stands for (Z-Machine Standards Document 1.1,
+/// section
 /// 1.2.3).
 #[tactic(auto, unfolding(crate::specs::Extent::next_packed, zk_mem::specs::Header::unit_length))]
 pub fn next_packed(memory: &Memory, address: u32) -> u32
@@ -68,8 +69,8 @@ pub fn next_packed(memory: &Memory, address: u32) -> u32
     (address + unit - 1) / unit * unit
 }
 
-/// Whether a routine stands at a byte address: a count of at most 15 local variables, and code that has an end (Z-Machine
-/// Standards Document 1.1, sections 5.2 and 5.3).
+/// Whether a routine stands at a byte address: a count of at most 15 local variables, and code that has an end
+/// (Z-Machine Standards Document 1.1, sections 5.2 and 5.3).
 pub fn is_routine(memory: &Memory, ends: &TextEnds, address: u32) -> bool
     requires { KnowsEnds memory.now ends.now }
     ensures { (result ≡ true) ↔ IsRoutine memory.now address }
@@ -80,7 +81,8 @@ pub fn is_routine(memory: &Memory, ends: &TextEnds, address: u32) -> bool
     }
 }
 
-/// The byte address of the routine that stands at the least packed address at or after the end of the code at an address.
+/// The byte address of the routine that stands at the least packed address at or after the end of the code at an
+/// address.
 fn routine_after(memory: &Memory, ends: &TextEnds, start: u32) -> Option<u32>
     requires { KnowsEnds memory.now ends.now }
     ensures found { IfSome result (FollowsCode memory.now start) }
@@ -97,8 +99,8 @@ fn routine_after(memory: &Memory, ends: &TextEnds, start: u32) -> Option<u32>
     }
 }
 
-/// The neighbour of the code at an address: the routine that stands at the least packed address at or after the code's end;
-/// or, where none stands there, the one after the end of the code that does.
+/// The neighbour of the code at an address: the routine that stands at the least packed address at or after the code's
+/// end; or, where none stands there, the one after the end of the code that does.
 pub fn neighbour(memory: &Memory, ends: &TextEnds, start: u32) -> Option<u32>
     requires { KnowsEnds memory.now ends.now }
     ensures found { IfSome result (IsNeighbour memory.now start) }

@@ -1,7 +1,8 @@
 // What comes before the operands: the opcode, and the types of the operands.
 
 ghost use Rattle.std.specs.Prelude.{◌≡◌, ◌≤◌, ◌<◌, ◌^◌, IfOk};
-ghost use Rattle.zk_code.specs.Reading.{type_by_bits, type_by_bit, types_at, with_types, with_type_bytes, extended_at, head_by, head_at};
+ghost use Rattle.zk_code.specs.Reading.{type_by_bits, type_by_bit, types_at, with_types, with_type_bytes, extended_at};
+ghost use Rattle.zk_code.specs.Reading.{head_by, head_at};
 
 use crate::bytes::read_byte;
 use crate::operands::OperandType;

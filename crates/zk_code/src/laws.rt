@@ -1,6 +1,7 @@
 // Laws of the instructions of a story.
 
-ghost use Rattle.zk_code.specs.Laws.{AtMostOne, EndsInside, FoundIsSpelled, ReasonRefuses, RefusedWithReason, SameBytes, SpelledIsFound, TextIsWords, WordsAreText};
+ghost use Rattle.zk_code.specs.Laws.{AtMostOne, EndsInside, FoundIsSpelled, ReasonRefuses, RefusedWithReason};
+ghost use Rattle.zk_code.specs.Laws.{SameBytes, SpelledIsFound, TextIsWords, WordsAreText};
 ghost use Rattle.zk_code.specs.Reach.{ReachIsLeast};
 
 /// Reading from an address on finds the instruction that the grammar spells there, and that alone; and

@@ -2,7 +2,15 @@
 
 ghost use Rattle.std.specs.Prelude.{ℕ, ◌≡◌, nat_le, if◌then◌else◌, codes};
 ghost use Rattle.zk_code.specs.Table.{name_of};
-ghost use Rattle.zk_code.specs.declared.opcode.Opcode.TheVariants.{Arithmetic as arithmetic, Comparison as comparison, Assignment as assignment, Array as array, ObjectChange as object_change, ObjectQuestion as object_question, Call as call, Routine as routine, Control as control, Printing as printing, Idle as idle, Reading as reading, Words as words, Window as window, Stream as stream, Table as table, Saving as saving};
+ghost use Rattle.zk_code.specs.declared.opcode.Opcode.TheVariants.{Arithmetic as arithmetic, Comparison as comparison};
+ghost use Rattle.zk_code.specs.declared.opcode.Opcode.TheVariants.{Assignment as assignment, Array as array};
+ghost use Rattle.zk_code.specs.declared.opcode.Opcode.TheVariants.{ObjectChange as object_change};
+ghost use Rattle.zk_code.specs.declared.opcode.Opcode.TheVariants.{ObjectQuestion as object_question, Call as call};
+ghost use Rattle.zk_code.specs.declared.opcode.Opcode.TheVariants.{Routine as routine, Control as control};
+ghost use Rattle.zk_code.specs.declared.opcode.Opcode.TheVariants.{Printing as printing, Idle as idle};
+ghost use Rattle.zk_code.specs.declared.opcode.Opcode.TheVariants.{Reading as reading, Words as words};
+ghost use Rattle.zk_code.specs.declared.opcode.Opcode.TheVariants.{Window as window, Stream as stream, Table as table};
+ghost use Rattle.zk_code.specs.declared.opcode.Opcode.TheVariants.{Saving as saving};
 
 /// Arithmetic on words, and logic on their bits.
 #[derive(Clone, Copy, PartialEq, Eq, Drop)]

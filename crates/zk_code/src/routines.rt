@@ -33,7 +33,8 @@ pub fn local_count(memory: &Memory, address: u32) -> Option<u8>
     }
 }
 
-/// The byte address of the first instruction of the routine at a byte address, where there is a routine (Standard, section
+/// The byte address of the first instruction of the routine at a byte address, where there is a routine (Standard,
+/// section
 /// 5.3). It may be the story's end.
 #[tactic(auto, unfolding(crate::specs::Routines::code_start))]
 pub fn code_start(memory: &Memory, address: u32) -> Option<u32>

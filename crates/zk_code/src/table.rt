@@ -1,7 +1,8 @@
 // The opcode tables: which opcode a number is in a version, and what belongs to it.
 
 ghost use Rattle.std.specs.Prelude.{◌≡◌, Some};
-ghost use Rattle.zk_code.specs.Table.{two_operand, one_operand, zero_operand, variable_operand, extended, stores, branches, has_text, has_two_type_bytes};
+ghost use Rattle.zk_code.specs.Table.{two_operand, one_operand, zero_operand, variable_operand, extended, stores};
+ghost use Rattle.zk_code.specs.Table.{branches, has_text, has_two_type_bytes};
 
 use crate::opcode::{
     Arithmetic, Array, Assignment, Call, Comparison, Control, Idle, ObjectChange, ObjectQuestion,

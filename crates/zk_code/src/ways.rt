@@ -1,7 +1,9 @@
 // Where an instruction leads to by what stands in it.
 
 ghost use Rattle.std.specs.Prelude.{◌≡◌, ◌≤◌, ◌<◌, ◌*◌, ◌^◌, IfSome};
-ghost use Rattle.zk_code.specs.Reach.{address_in, branch_address, called_at, constant_call, constant_jump, first_constant, goes_on, is_call, is_jump, jump_address, printing_goes_on, routine_goes_on, saving_goes_on};
+ghost use Rattle.zk_code.specs.Reach.{address_in, branch_address, called_at, constant_call, constant_jump};
+ghost use Rattle.zk_code.specs.Reach.{first_constant, goes_on, is_call, is_jump, jump_address, printing_goes_on};
+ghost use Rattle.zk_code.specs.Reach.{routine_goes_on, saving_goes_on};
 
 use crate::branch::{BranchTarget, jump_target};
 use crate::instr::Instr;
@@ -40,8 +42,8 @@ fn is_call(opcode: Opcode) -> bool
     matches!(opcode, Opcode::Call(_))
 }
 
-/// Whether what stands after an instruction of an opcode may be carried out after it: not after a return, `throw`, `jump`,
-/// `quit` and `restart` (Standard, section 15).
+/// Whether what stands after an instruction of an opcode may be carried out after it: not after a return, `throw`,
+/// `jump`, `quit` and `restart` (Standard, section 15).
 #[tactic(auto, unfolding(crate::specs::Reach::goes_on))]
 pub fn goes_on(opcode: Opcode) -> bool
     ensures { result ≡ goes_on opcode }

@@ -1,16 +1,20 @@
 -- What clap finds in the arguments of the command line.
-use Rattle.std.proofs.Common.{◌≡◌, ◌∙◌, ◌<◌, ◌≤◌, ◌⊎◌, inl, inr, ℕ, zero, suc, List, [], ◌∷◌, length, take, get_or, Option, Some, None, IfNone, IfSome, codes, refl, sym, ap, arith, subst, Bool, true, false}
+use Rattle.std.proofs.Common.{◌≡◌, ◌∙◌, ◌<◌, ◌≤◌, ◌⊎◌, inl, inr, ℕ, zero, suc, List, [], ◌∷◌, length, take, get_or}
+use Rattle.std.proofs.Common.{Option, Some, None, IfNone, IfSome, codes, refl, sym, ap, arith, subst, Bool, true, false}
 use Rattle.std.specs.Prelude.{SomeIff, IsSomeAnd, map, option_map, unwrap_or}
 use Rattle.std.specs.Str.{bytes_eq}
 use Rattle.std.proofs.lemmas.Slice.Eq.{bytes_eq-Decides}
-use Rattle.clap.specs.Words.{App, HasMatchesOf, Row, Text, all_of, first_of, is_simple, kind_of, is_simple_and_free, subcommand_name_of, subcommand_of, with_rule, with_subcommand}
+use Rattle.clap.specs.Words.{App, HasMatchesOf, Row, Text, all_of, first_of, is_simple, kind_of, is_simple_and_free}
+use Rattle.clap.specs.Words.{subcommand_name_of, subcommand_of, with_rule, with_subcommand}
 use Rattle.clap.proofs.OnLiterals.{clap_on_literals}
 use Rattle.clap.specs.declared.ArgMatches.{ArgMatches}
 use Rattle.clap.specs.declared.Error.{Error}
 use Rattle.clap.specs.declared.error.ErrorKind.TheVariants.{OutOfMemory}
 use Rattle.zk_command.specs.declared.settings.Amount.{Amount}
 use Rattle.zk_command.specs.declared.settings.PlayOptions.{PlayOptions}
-use Rattle.zk_command.specs.CommandLine.{Asks, IsAmount, IsNumberIn, IsOtherName, IsRefusedWith, MaySayAmount, MetSays, Says, SaysListing, SaysOptions, SaysNumber, SaysStory, command_line, flag_said, number_in, option_rule, table_command, usage_status, with_rules, with_tables}
+use Rattle.zk_command.specs.CommandLine.{Asks, IsAmount, IsNumberIn, IsOtherName, IsRefusedWith, MaySayAmount, MetSays}
+use Rattle.zk_command.specs.CommandLine.{Says, SaysListing, SaysOptions, SaysNumber, SaysStory, command_line, flag_said}
+use Rattle.zk_command.specs.CommandLine.{number_in, option_rule, table_command, usage_status, with_rules, with_tables}
 use Rattle.zk_command.specs.declared.choice.Choice.{Choice}
 use Rattle.zk_command.specs.declared.options.CommandOption.{CommandOption}
 use Rattle.zk_command.specs.declared.options.CommandTable.{CommandTable}
@@ -30,7 +34,8 @@ command_line_is_free = refl
 
 -- one option more
 pub rules_more : (a : App) (os : List CommandOption) (i : ℕ) (d : CommandOption) → i < length os
-    → with_rules a (map option_rule (take (suc i) os)) ≡ with_rule (with_rules a (map option_rule (take i os))) (option_rule (get_or os i d))
+    → with_rules a (map option_rule (take (suc i) os)) ≡ with_rule (with_rules a (map option_rule (take i os)))
+    (option_rule (get_or os i d))
 rules_more a [] i d h = absurd (omega arith)
 rules_more a (o ∷ os) zero d h = refl
 rules_more a (o ∷ os) (suc i) d h = rules_more (with_rule a (option_rule o)) os i d (omega arith)
@@ -43,74 +48,97 @@ tables_more a (t ∷ ts) zero d h = refl
 tables_more a (t ∷ ts) (suc i) d h = tables_more (with_subcommand a (table_command t).top) ts i d (omega arith)
 
 -- a number that was read of an option's text
-pub number_said : (rows : List Row) (option : Text) (least most : ℕ) (argument : Text) (o : Option ℕ) → first_of option rows ≡ Some argument
-    → SomeIff o (IsNumberIn least most argument) (number_in argument) → IfSome o (λ n. SaysNumber rows option least most n)
+pub number_said : (rows : List Row) (option : Text) (least most : ℕ) (argument : Text) (o : Option ℕ)
+    → first_of option rows ≡ Some argument
+    → SomeIff o (IsNumberIn least most argument) (number_in argument)
+    → IfSome o (λ n. SaysNumber rows option least most n)
 number_said rows option least most argument None e h = tt
 number_said rows option least most argument (Some n) e h =
     subst (λ (o : Option Text). IsSomeAnd o (λ w. IsNumberIn least most w × (number_in w ≡ n))) (sym e) (h.0, sym h.1)
 
-firsts : {X Y Z : Type 0} (f : X → Y × Z) (o : Option X) → option_map (λ p. p.0) (option_map f o) ≡ option_map (λ x. (f x).0) o
+firsts : {X Y Z : Type 0} (f : X → Y × Z) (o : Option X) → option_map (λ p. p.0) (option_map f o) ≡ option_map
+    (λ x. (f x).0) o
 firsts f None = refl
 firsts f (Some x) = refl
 
 -- what clap has met in the arguments, they ask for
-pub met_asks : (m : ArgMatches) (a : App) (arguments : List Text) → a ≡ command_line → HasMatchesOf a arguments m → (c : Choice) → MetSays m c → Asks arguments c
+pub met_asks : (m : ArgMatches) (a : App) (arguments : List Text) → a ≡ command_line → HasMatchesOf a arguments m
+    → (c : Choice) → MetSays m c → Asks arguments c
 met_asks m a arguments line_is has c h = record {
   name = h.name;
   rows = h.rows;
-  command = ap (λ (b : App). subcommand_of b arguments) (sym line_is) ∙ sym (has (ap is_simple line_is ∙ command_line_is_simple)).1 ∙ h.command;
+  command = ap (λ (b : App). subcommand_of b arguments) (sym line_is)
+      ∙ sym (has (ap is_simple line_is ∙ command_line_is_simple)).1 ∙ h.command;
   says = h.says;
 }
 
 -- and where that says nothing, the arguments ask for nothing
-unasked : (m : ArgMatches) (a : App) (arguments : List Text) → a ≡ command_line → HasMatchesOf a arguments m → ((c : Choice) → MetSays m c → ⊥) → (c : Choice) → Asks arguments c → ⊥
+unasked : (m : ArgMatches) (a : App) (arguments : List Text) → a ≡ command_line → HasMatchesOf a arguments m
+    → ((c : Choice) → MetSays m c → ⊥) → (c : Choice) → Asks arguments c → ⊥
 unasked m a arguments line_is has none c h = none c (record {
   name = h.name;
   rows = h.rows;
-  command = (has (ap is_simple line_is ∙ command_line_is_simple)).1 ∙ ap (λ (b : App). subcommand_of b arguments) line_is ∙ h.command;
+  command = (has (ap is_simple line_is ∙ command_line_is_simple)).1 ∙ ap (λ (b : App). subcommand_of b arguments)
+      line_is ∙ h.command;
   says = h.says;
 })
 
 -- without memory, or where that says nothing, they are refused
-pub refused_by : (m : ArgMatches) (a : App) (arguments : List Text) → a ≡ command_line → HasMatchesOf a arguments m → (e : Error)
-    → (kind_of e ≡ OutOfMemory) ⊎ ((1 ≤ usage_status (kind_of e)) × ((c : Choice) → MetSays m c → ⊥)) → IsRefusedWith arguments e
+pub refused_by : (m : ArgMatches) (a : App) (arguments : List Text) → a ≡ command_line
+    → HasMatchesOf a arguments m → (e : Error)
+    → (kind_of e ≡ OutOfMemory) ⊎ ((1 ≤ usage_status (kind_of e)) × ((c : Choice) → MetSays m c → ⊥))
+    → IsRefusedWith arguments e
 refused_by m a arguments line_is has e (inl h) = inl (inl h)
 refused_by m a arguments line_is has e (inr h) = inr (h.0, unasked m a arguments line_is has h.1)
 
 -- where clap has met no command, nothing is said
 pub without_command : (m : ArgMatches) → subcommand_name_of m ≡ None → (c : Choice) → MetSays m c → ⊥
 without_command m none c h =
-    let some : None ≡ Some h.name = sym none ∙ sym (firsts _ _) ∙ ap (option_map (λ (p : Text × List Row). p.0)) h.command in
+    let some : None ≡ Some h.name = sym none ∙ sym (firsts _ _) ∙ ap (option_map (λ (p : Text × List Row). p.0))
+    h.command in
     absurd cc
 
 -- an option without a text says no number
-pub none_said : (rows : List Row) (option : Text) (least most : ℕ) → first_of option rows ≡ None → (n : ℕ) → SaysNumber rows option least most n → ⊥
-none_said rows option least most e n h = subst (λ (o : Option Text). IsSomeAnd o (λ w. IsNumberIn least most w × (number_in w ≡ n))) e h
+pub none_said : (rows : List Row) (option : Text) (least most : ℕ) → first_of option rows ≡ None → (n : ℕ)
+    → SaysNumber rows option least most n → ⊥
+none_said rows option least most e n h =
+    subst (λ (o : Option Text). IsSomeAnd o (λ w. IsNumberIn least most w × (number_in w ≡ n))) e h
 
 -- neither does one whose text is no number in the range
-pub number_not_said : (rows : List Row) (option : Text) (least most : ℕ) (argument : Text) (o : Option ℕ) → first_of option rows ≡ Some argument
-    → SomeIff o (IsNumberIn least most argument) (number_in argument) → IfNone o ((n : ℕ) → SaysNumber rows option least most n → ⊥)
+pub number_not_said : (rows : List Row) (option : Text) (least most : ℕ) (argument : Text) (o : Option ℕ)
+    → first_of option rows ≡ Some argument
+    → SomeIff o (IsNumberIn least most argument) (number_in argument)
+    → IfNone o ((n : ℕ) → SaysNumber rows option least most n → ⊥)
 number_not_said rows option least most argument None e h =
     λ n said. h (subst (λ (o : Option Text). IsSomeAnd o (λ w. IsNumberIn least most w × (number_in w ≡ n))) e said).0
 number_not_said rows option least most argument (Some n) e h = tt
 
 -- an option's text says a number, or one that the program finds
-pub amount_said : (rows : List Row) (option : Text) (least most : ℕ) (word : Option Text) (argument : Text) (a : Amount) → first_of option rows ≡ Some argument
+pub amount_said : (rows : List Row) (option : Text) (least most : ℕ) (word : Option Text) (argument : Text)
+    (a : Amount) → first_of option rows ≡ Some argument
     → IsAmount least most word argument a → MaySayAmount rows option least most word (Some a)
-amount_said rows option least most word argument a e h = subst (λ (o : Option Text). IsSomeAnd o (λ w. IsAmount least most word w a)) (sym e) h
+amount_said rows option least most word argument a e h =
+    subst (λ (o : Option Text). IsSomeAnd o (λ w. IsAmount least most word w a)) (sym e) h
 
 -- one whose text says neither
-pub no_amount_said : (rows : List Row) (option : Text) (least most : ℕ) (word : Option Text) (argument : Text) → first_of option rows ≡ Some argument
-    → ((a : Amount) → IsAmount least most word argument a → ⊥) → (a : Option Amount) → MaySayAmount rows option least most word a → ⊥
-no_amount_said rows option least most word argument e none None h = let both : None ≡ Some argument = sym h ∙ e in absurd cc
-no_amount_said rows option least most word argument e none (Some a) h = none a (subst (λ (o : Option Text). IsSomeAnd o (λ w. IsAmount least most word w a)) e h)
+pub no_amount_said : (rows : List Row) (option : Text) (least most : ℕ) (word : Option Text) (argument : Text)
+    → first_of option rows ≡ Some argument
+    → ((a : Amount) → IsAmount least most word argument a → ⊥) → (a : Option Amount)
+    → MaySayAmount rows option least most word a → ⊥
+no_amount_said rows option least most word argument e none None h =
+    let both : None ≡ Some argument = sym h ∙ e in absurd cc
+no_amount_said rows option least most word argument e none (Some a) h =
+    none a (subst (λ (o : Option Text). IsSomeAnd o (λ w. IsAmount least most word w a)) e h)
 
 -- an option that is left out says no number
-pub left_out : (rows : List Row) (option : Text) (least most : ℕ) (word : Option Text) → first_of option rows ≡ None → (a : Amount) → MaySayAmount rows option least most word (Some a) → ⊥
-left_out rows option least most word e a h = subst (λ (o : Option Text). IsSomeAnd o (λ w. IsAmount least most word w a)) e h
+pub left_out : (rows : List Row) (option : Text) (least most : ℕ) (word : Option Text)
+    → first_of option rows ≡ None → (a : Amount) → MaySayAmount rows option least most word (Some a) → ⊥
+left_out rows option least most word e a h =
+    subst (λ (o : Option Text). IsSomeAnd o (λ w. IsAmount least most word w a)) e h
 
 -- a flag by its text
-pub flag_by : (rows : List Row) (name argument : Text) (b : Bool) → first_of name rows ≡ Some argument → b ≡ bytes_eq argument (codes "true") → b ≡ flag_said (first_of name rows)
+pub flag_by : (rows : List Row) (name argument : Text) (b : Bool) → first_of name rows ≡ Some argument
+    → b ≡ bytes_eq argument (codes "true") → b ≡ flag_said (first_of name rows)
 flag_by rows name argument b e is = is ∙ sym (ap flag_said e)
 
 pub no_flag : (rows : List Row) (name : Text) → first_of name rows ≡ None → false ≡ flag_said (first_of name rows)
@@ -125,54 +153,68 @@ pub same_name : (name known : Text) → bytes_eq name known ≡ true → name �
 same_name name known test = let d = bytes_eq-Decides name known in d.0 test
 
 other_name : (name known : Text) → bytes_eq name known ≡ false → name ≡ known → ⊥
-other_name name known test e = let d = bytes_eq-Decides name known in let both : false ≡ true = sym test ∙ d.1 e in absurd cc
+other_name name known test e =
+    let d = bytes_eq-Decides name known in let both : false ≡ true = sym test ∙ d.1 e in absurd cc
 
 -- `play`, `test` and `unpack` list nothing
-no_listing : (name : Text) (rows : List Row) (listing : Listing) → bytes_eq name (codes "info") ≡ false → bytes_eq name (codes "disasm") ≡ false → bytes_eq name (codes "check") ≡ false → SaysListing name rows listing → ⊥
+no_listing : (name : Text) (rows : List Row) (listing : Listing) → bytes_eq name (codes "info") ≡ false
+    → bytes_eq name (codes "disasm") ≡ false → bytes_eq name (codes "check") ≡ false → SaysListing name rows listing → ⊥
 no_listing name rows (Info sections) i d k h = other_name name (codes "info") i h.0
 no_listing name rows (Code c) i d k h = other_name name (codes "disasm") d h.0
 no_listing name rows Findings i d k h = other_name name (codes "check") k h
 
 -- without a path or options `play` asks for nothing
-pub no_play_said : (rows : List Row) → ((path : List ℕ) (o : PlayOptions) → SaysStory rows path → SaysOptions rows o → ⊥) → (c : Choice) → Says (codes "play") rows c → ⊥
+pub no_play_said : (rows : List Row) → ((path : List ℕ) (o : PlayOptions) → SaysStory rows path
+    → SaysOptions rows o → ⊥) → (c : Choice) → Says (codes "play") rows c → ⊥
 no_play_said rows none (Play story options) h = none story.now options h.1 h.2
-no_play_said rows none (Show stories roots options listing) h = no_listing (codes "play") rows listing refl refl refl h.2
+no_play_said rows none (Show stories roots options listing) h =
+    no_listing (codes "play") rows listing refl refl refl h.2
 no_play_said rows none (Test paths story bless) h = other_name (codes "play") (codes "test") refl h.0
 no_play_said rows none (Unpack file out) h = other_name (codes "play") (codes "unpack") refl h.0
 
 -- without the paths of two files `unpack` asks for nothing
-pub no_unpack_said : (rows : List Row) → ((file out : List ℕ) → first_of (codes "FILE") rows ≡ Some file → first_of (codes "OUT") rows ≡ Some out → ⊥) → (c : Choice) → Says (codes "unpack") rows c → ⊥
+pub no_unpack_said : (rows : List Row) → ((file out : List ℕ) → first_of (codes "FILE") rows ≡ Some file
+    → first_of (codes "OUT") rows ≡ Some out → ⊥) → (c : Choice) → Says (codes "unpack") rows c → ⊥
 no_unpack_said rows none (Play story options) h = other_name (codes "unpack") (codes "play") refl h.0
-no_unpack_said rows none (Show stories roots options listing) h = no_listing (codes "unpack") rows listing refl refl refl h.2
+no_unpack_said rows none (Show stories roots options listing) h =
+    no_listing (codes "unpack") rows listing refl refl refl h.2
 no_unpack_said rows none (Test paths story bless) h = other_name (codes "unpack") (codes "test") refl h.0
 no_unpack_said rows none (Unpack file out) h = none file.now out.now h.1 h.2
 
 -- there are no paths
-no_paths : (rows : List Row) (paths told : List Text) → paths ≡ unwrap_or (all_of (codes "STORY") rows) [] → length paths ≡ 0 → 1 ≤ length told → told ≡ unwrap_or (all_of (codes "STORY") rows) [] → ⊥
+no_paths : (rows : List Row) (paths told : List Text) → paths ≡ unwrap_or (all_of (codes "STORY") rows) []
+    → length paths ≡ 0 → 1 ≤ length told → told ≡ unwrap_or (all_of (codes "STORY") rows) [] → ⊥
 no_paths rows paths told is none some same =
     let both : length told ≡ 0 = ap length (same ∙ sym is) ∙ none in
     let one : 1 ≤ 0 = rw both at some in
     absurd (omega arith)
 
 -- without a path `test` asks for nothing
-pub no_test_said : (rows : List Row) (paths : List Text) → paths ≡ unwrap_or (all_of (codes "STORY") rows) [] → length paths ≡ 0 → (c : Choice) → Says (codes "test") rows c → ⊥
+pub no_test_said : (rows : List Row) (paths : List Text) → paths ≡ unwrap_or (all_of (codes "STORY") rows) []
+    → length paths ≡ 0 → (c : Choice) → Says (codes "test") rows c → ⊥
 no_test_said rows paths is none (Play story options) h = other_name (codes "test") (codes "play") refl h.0
-no_test_said rows paths is none (Show stories roots options listing) h = no_listing (codes "test") rows listing refl refl refl h.2
+no_test_said rows paths is none (Show stories roots options listing) h =
+    no_listing (codes "test") rows listing refl refl refl h.2
 no_test_said rows paths is none (Test told story bless) h = no_paths rows paths _ is none h.1.0 h.1.1
 no_test_said rows paths is none (Unpack file out) h = other_name (codes "test") (codes "unpack") refl h.0
 
 -- without stories, or by a name of no listing, nothing is listed
-pub no_stories : (name : Text) (rows : List Row) (paths : List Text) → IsOtherName name → paths ≡ unwrap_or (all_of (codes "STORY") rows) [] → length paths ≡ 0 → (c : Choice) → Says name rows c → ⊥
+pub no_stories : (name : Text) (rows : List Row) (paths : List Text) → IsOtherName name
+    → paths ≡ unwrap_or (all_of (codes "STORY") rows) [] → length paths ≡ 0 → (c : Choice) → Says name rows c → ⊥
 no_stories name rows paths other is none (Play story options) h = other_name name (codes "play") other.play h.0
-no_stories name rows paths other is none (Show stories roots options listing) h = no_paths rows paths _ is none h.0.0 h.0.1
+no_stories name rows paths other is none (Show stories roots options listing) h =
+    no_paths rows paths _ is none h.0.0 h.0.1
 no_stories name rows paths other is none (Test told story bless) h = other_name name (codes "test") other.test h.0
 no_stories name rows paths other is none (Unpack file out) h = other_name name (codes "unpack") other.unpack h.0
 
-pub no_command : (name : Text) (rows : List Row) → IsOtherName name → ((l : Listing) → SaysListing name rows l → ⊥) → (c : Choice) → Says name rows c → ⊥
+pub no_command : (name : Text) (rows : List Row) → IsOtherName name
+    → ((l : Listing) → SaysListing name rows l → ⊥) → (c : Choice) → Says name rows c → ⊥
 no_command name rows other none (Play story options) h = other_name name (codes "play") other.play h.0
 no_command name rows other none (Show stories roots options listing) h = none listing h.2
 no_command name rows other none (Test told story bless) h = other_name name (codes "test") other.test h.0
 no_command name rows other none (Unpack file out) h = other_name name (codes "unpack") other.unpack h.0
 
-pub no_listing_said : (name : Text) (rows : List Row) → bytes_eq name (codes "info") ≡ false → bytes_eq name (codes "disasm") ≡ false → bytes_eq name (codes "check") ≡ false → (l : Listing) → SaysListing name rows l → ⊥
+pub no_listing_said : (name : Text) (rows : List Row) → bytes_eq name (codes "info") ≡ false
+    → bytes_eq name (codes "disasm") ≡ false → bytes_eq name (codes "check") ≡ false → (l : Listing)
+    → SaysListing name rows l → ⊥
 no_listing_said name rows i d k l h = no_listing name rows l i d k h

@@ -18,10 +18,17 @@ pub nothing_is_kept : NothingIsKept
 unfolding SlotDid
 nothing_is_kept before after [] none h = tt
 nothing_is_kept before after (Offered file true ∷ l) none h = let never = rw none at h.1.0.0 in absurd cc
-nothing_is_kept before after (Offered file false ∷ l) none h = (refl, nothing_is_kept h.0 after l (still_none before.place h.0.place none (h.1.0.2 refl)) h.1.1)
-nothing_is_kept before after (Asked file refusal ∷ l) none h = (rw none at h.1.0.0, nothing_is_kept h.0 after l (still_none before.place h.0.place none h.1.0.1) h.1.1)
-nothing_is_kept before after (At address ∷ l) none h = (tt, nothing_is_kept h.0 after l (ap (λ (s : SaveFile). s.place) h.1.0 ∙ none) h.1.1)
-nothing_is_kept before after (Shown c ∷ l) none h = (tt, nothing_is_kept h.0 after l (ap (λ (s : SaveFile). s.place) h.1.0 ∙ none) h.1.1)
-nothing_is_kept before after (Scripted c ∷ l) none h = (tt, nothing_is_kept h.0 after l (ap (λ (s : SaveFile). s.place) h.1.0 ∙ none) h.1.1)
-nothing_is_kept before after (Read extra codes ∷ l) none h = (tt, nothing_is_kept h.0 after l (ap (λ (s : SaveFile). s.place) h.1.0 ∙ none) h.1.1)
-nothing_is_kept before after (Stopped stop ∷ l) none h = (tt, nothing_is_kept h.0 after l (ap (λ (s : SaveFile). s.place) h.1.0 ∙ none) h.1.1)
+nothing_is_kept before after (Offered file false ∷ l) none h =
+    (refl, nothing_is_kept h.0 after l (still_none before.place h.0.place none (h.1.0.2 refl)) h.1.1)
+nothing_is_kept before after (Asked file refusal ∷ l) none h =
+    (rw none at h.1.0.0, nothing_is_kept h.0 after l (still_none before.place h.0.place none h.1.0.1) h.1.1)
+nothing_is_kept before after (At address ∷ l) none h =
+    (tt, nothing_is_kept h.0 after l (ap (λ (s : SaveFile). s.place) h.1.0 ∙ none) h.1.1)
+nothing_is_kept before after (Shown c ∷ l) none h =
+    (tt, nothing_is_kept h.0 after l (ap (λ (s : SaveFile). s.place) h.1.0 ∙ none) h.1.1)
+nothing_is_kept before after (Scripted c ∷ l) none h =
+    (tt, nothing_is_kept h.0 after l (ap (λ (s : SaveFile). s.place) h.1.0 ∙ none) h.1.1)
+nothing_is_kept before after (Read extra codes ∷ l) none h =
+    (tt, nothing_is_kept h.0 after l (ap (λ (s : SaveFile). s.place) h.1.0 ∙ none) h.1.1)
+nothing_is_kept before after (Stopped stop ∷ l) none h =
+    (tt, nothing_is_kept h.0 after l (ap (λ (s : SaveFile). s.place) h.1.0 ∙ none) h.1.1)

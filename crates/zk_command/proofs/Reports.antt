@@ -19,20 +19,25 @@ took_past a text e = record {
 }
 
 -- a report: the words, and then the last line
-pub reported : (exit : Exit) (apart : Bool) (a b c : Device) → TookWords apart exit a b → Took b c (last_line exit) → TookExplained exit (last_line exit) a c
+pub reported : (exit : Exit) (apart : Bool) (a b c : Device) → TookWords apart exit a b
+    → Took b c (last_line exit) → TookExplained exit (last_line exit) a c
 reported exit apart a b c (inl h) k = inl (took_twice a b c [] (last_line exit) h k)
-reported exit apart a b c (inr h) k = inr (h.0, (apart, (h.1, took_twice a b c (words_line apart h.1) (last_line exit) h.2 k)))
+reported exit apart a b c (inr h) k =
+    inr (h.0, (apart, (h.1, took_twice a b c (words_line apart h.1) (last_line exit) h.2 k)))
 
 -- the words alone, where a write has failed
-pub cut_off : (exit : Exit) (apart : Bool) (a b : Device) → b.failed ≡ true → TookWords apart exit a b → TookExplained exit (last_line exit) a b
+pub cut_off : (exit : Exit) (apart : Bool) (a b : Device) → b.failed ≡ true → TookWords apart exit a b
+    → TookExplained exit (last_line exit) a b
 cut_off exit apart a b e h = reported exit apart a b b h (took_past b (last_line exit) e)
 
 -- words on an ending that can be explained
-pub explained : (exit : Exit) (a b : Device) (apart : Bool) (words : List ℕ) → IsExplained exit → Took a b (words_line apart words) → TookWords apart exit a b
+pub explained : (exit : Exit) (a b : Device) (apart : Bool) (words : List ℕ) → IsExplained exit
+    → Took a b (words_line apart words) → TookWords apart exit a b
 explained exit a b apart words h k = inr (h, words, k)
 
 -- a device that had not failed took what was written, or a first part of it where a write has failed
-pub took_by : (e : Bool) (a b : Device) (text : List ℕ) → a.failed ≡ false → Wrote e a.taken b.taken text → b.failed ≡ e → Took a b text
+pub took_by : (e : Bool) (a b : Device) (text : List ℕ) → a.failed ≡ false → Wrote e a.taken b.taken text
+    → b.failed ≡ e → Took a b text
 took_by false a b text sound h same = record {
   part = text;
   rest = [];

@@ -1,7 +1,9 @@
 -- What the arguments of the command line ask for, by clap's function of the arguments for a simple command.
-use Rattle.std.specs.Prelude.{◌≡◌, ◌⊎◌, ◌≤◌, ◌||◌, ℕ, Bool, true, false, not, List, [], ◌∷◌, Option, Some, None, codes, length, map, option_map, unwrap_or, if◌then◌else◌, IsSomeAnd}
+use Rattle.std.specs.Prelude.{◌≡◌, ◌⊎◌, ◌≤◌, ◌||◌, ℕ, Bool, true, false, not, List, [], ◌∷◌, Option, Some, None, codes}
+use Rattle.std.specs.Prelude.{length, map, option_map, unwrap_or, if◌then◌else◌, IsSomeAnd}
 use Rattle.std.specs.Str.Parse.{IsNumeral, digits_value, without_leading_plus}
-use Rattle.clap.specs.Words.{App, HasKind, Row, Rule, Text, all_of, fault_of, first_of, kind_of, new_app, new_rule, subcommand_of, subcommand_rows_of, with_rule, with_subcommand}
+use Rattle.clap.specs.Words.{App, HasKind, Row, Rule, Text, all_of, fault_of, first_of, kind_of, new_app, new_rule}
+use Rattle.clap.specs.Words.{subcommand_of, subcommand_rows_of, with_rule, with_subcommand}
 use Rattle.std.specs.Str.{bytes_eq}
 use Rattle.clap.specs.Simple.{on_top}
 use Rattle.clap.specs.declared.builder.action.ArgAction.TheVariants.{Append, SetTrue}
@@ -23,7 +25,8 @@ use Rattle.zk_command.specs.declared.settings.ShowOptions.{ShowOptions}
 use Rattle.zk_command.specs.declared.choice.Choice.{Choice}
 use Rattle.zk_command.specs.declared.choice.Named.{Named as NamedByCommand}
 use Rattle.zk_command.specs.declared.options.CommandOption.{CommandOption}
-use Rattle.zk_command.specs.declared.options.CommandOption.TheVariants.{Number, File, Folder, Address, Flag, Path, Story, Stories, Walkthroughs}
+use Rattle.zk_command.specs.declared.options.CommandOption.TheVariants.{Number, File, Folder, Address, Flag, Path}
+use Rattle.zk_command.specs.declared.options.CommandOption.TheVariants.{Story, Stories, Walkthroughs}
 use Rattle.zk_command.specs.declared.options.CommandTable.{CommandTable}
 use Rattle.zk_command.specs.declared.options.NumberOption.{NumberOption}
 use Rattle.zk_command.specs.declared.choice.Choice.TheVariants.{Play, Show, Test, Unpack}
@@ -102,7 +105,8 @@ abbrev pub with_tables : App → List CommandTable → App
 with_tables a [] = a
 with_tables a (t ∷ ts) = with_tables (with_subcommand a (table_command t).top) ts
 
--- `play [--frames n] [--words n] [--undo n] [--steps n] [--seed n] [--save FILE] [--saves FOLDER] [--script FILE] [--upper] [--boxes] [--width n]
+-- `play [--frames n] [--words n] [--undo n] [--steps n] [--seed n] [--save FILE] [--saves FOLDER] [--script FILE]
+-- [--upper] [--boxes] [--width n]
 -- [--page n] [--echo] [--record FILE] [--calls] [--cover FILE] STORY`
 abbrev pub play_command : App
 play_command = with_rules (new_app (codes "play")) (
@@ -125,7 +129,8 @@ play_command = with_rules (new_app (codes "play")) (
     ∷ story_argument
     ∷ [])
 
--- `info [--header] [--map] [--abbreviations] [--dictionary] [--objects] [--tree] [--ifid] [--strings] [--properties] [--globals]
+-- `info [--header] [--map] [--abbreviations] [--dictionary] [--objects] [--tree] [--ifid] [--strings] [--properties]
+-- [--globals]
 -- [--alphabets] [--extension] [--notes] [--graph] [--svg] [--rows] [--json] [--recursive] [--files-from FILE] STORY..`
 abbrev pub info_command : App
 info_command = with_rules (new_app (codes "info")) (
@@ -165,20 +170,29 @@ disasm_command = with_rules (new_app (codes "disasm")) (
 
 -- `check [--notes] [--summary] [--rows] [--json] [--recursive] [--files-from FILE] STORY..`
 abbrev pub check_command : App
-check_command = with_rules (new_app (codes "check")) (flag (codes "notes") ∷ flag (codes "summary") ∷ flag (codes "rows") ∷ flag (codes "json") ∷ flag (codes "recursive") ∷ value_option (codes "files-from") ∷ story_arguments ∷ [])
+check_command =
+    with_rules (new_app (codes "check")) (flag (codes "notes") ∷ flag (codes "summary") ∷ flag (codes "rows")
+    ∷ flag (codes "json") ∷ flag (codes "recursive") ∷ value_option (codes "files-from") ∷ story_arguments ∷ [])
 
 -- `test [--files-from FILE] [--story FILE] [--bless] PATH..`
 abbrev pub test_command : App
-test_command = with_rules (new_app (codes "test")) (value_option (codes "files-from") ∷ value_option (codes "story") ∷ flag (codes "bless") ∷ path_arguments ∷ [])
+test_command =
+    with_rules (new_app (codes "test")) (value_option (codes "files-from") ∷ value_option (codes "story")
+    ∷ flag (codes "bless") ∷ path_arguments ∷ [])
 
 -- `unpack FILE OUT`
 abbrev pub unpack_command : App
-unpack_command = with_rule (with_rule (new_app (codes "unpack")) (file_argument (codes "FILE"))) (file_argument (codes "OUT"))
+unpack_command =
+    with_rule (with_rule (new_app (codes "unpack")) (file_argument (codes "FILE"))) (file_argument (codes "OUT"))
 
 -- zkit's commands that play and list stories
 abbrev pub first_commands : App
 first_commands =
-    with_subcommand (with_subcommand (with_subcommand (with_subcommand (on_top (λ s. record s { has_version = true; subcommand_required = true }) (new_app (codes "zkit")))
+    with_subcommand
+    (with_subcommand
+    (with_subcommand
+    (with_subcommand (on_top (λ s. record s { has_version = true; subcommand_required = true })
+    (new_app (codes "zkit")))
     play_command.top) info_command.top) disasm_command.top) check_command.top
 
 -- zkit's command line: these commands; help and the version are clap's
@@ -197,7 +211,8 @@ pub record IsNumberIn (least most : ℕ) (argument : Text) : Type 0 where
 
 -- the text that clap found for an option is a number in a range
 abbrev pub SaysNumber : List Row → Text → ℕ → ℕ → ℕ → Type 0
-SaysNumber rows option least most n = IsSomeAnd (first_of option rows) (λ argument. IsNumberIn least most argument × (number_in argument ≡ n))
+SaysNumber rows option least most n =
+    IsSomeAnd (first_of option rows) (λ argument. IsNumberIn least most argument × (number_in argument ≡ n))
 
 -- the word of an option for a number that the program finds, if it has one
 abbrev pub word_of : NumberOption → Option Text
@@ -211,7 +226,8 @@ IsAmount least most word argument amount.Found = word ≡ Some argument
 -- the text that clap found for an option says such a number, or the option is left out
 abbrev pub MaySayAmount : List Row → Text → ℕ → ℕ → Option Text → Option Amount → Type 0
 MaySayAmount rows option least most word None = first_of option rows ≡ None
-MaySayAmount rows option least most word (Some a) = IsSomeAnd (first_of option rows) (λ argument. IsAmount least most word argument a)
+MaySayAmount rows option least most word (Some a) =
+    IsSomeAnd (first_of option rows) (λ argument. IsAmount least most word argument a)
 
 -- what clap found says the limits of a run
 pub record SaysLimits (rows : List Row) (l : Limits) : Type 0 where
@@ -237,8 +253,9 @@ SaysSeed rows seed = MaySayAmount rows (codes "seed") 0 18446744073709551615 (So
 abbrev pub SaysText : {S : Type 0} → (S → Text) → List Row → Text → Option S → Type 0
 SaysText {S} text rows option said = option_map text said ≡ first_of option rows
 
--- what clap found says the options of a play: the limits, the seed, the view, whether boxes are shown, files, the columns of the
--- screen and the lines of a page, whether what is read is shown, and calls are told, and the file of addresses that ran
+-- what clap found says the options of a play: the limits, the seed, the view, whether boxes are shown, files, the
+-- columns of the screen and the lines of a page, whether what is read is shown, and calls are told, and the file of
+-- addresses that ran
 pub record SaysOptions (rows : List Row) (o : PlayOptions) : Type 0 where
   pub limits : SaysLimits rows o.limits
   pub seed : SaysSeed rows o.seed
@@ -276,11 +293,15 @@ sections_named rows =
 -- whether a section but the header is among some
 abbrev pub has_others : Sections → Bool
 has_others s =
-    s.map || (s.abbreviations || (s.dictionary || (s.objects || (s.tree || (s.ifid || (s.strings || (s.properties || (s.globals || (s.alphabets || s.extension)))))))))
+    s.map || (s.abbreviations ||
+    (s.dictionary ||
+    (s.objects ||
+    (s.tree || (s.ifid || (s.strings || (s.properties || (s.globals || (s.alphabets || s.extension)))))))))
 
 -- the sections that they ask for: the header where none is named
 abbrev pub sections_said : List Row → Sections
-sections_said rows = record (sections_named rows) { header = (sections_named rows).header || not (has_others (sections_named rows)) }
+sections_said rows =
+    record (sections_named rows) { header = (sections_named rows).header || not (has_others (sections_named rows)) }
 
 -- the path of a story
 abbrev pub SaysStory : List Row → Text → Type 0
@@ -290,7 +311,8 @@ SaysStory rows path = first_of (codes "STORY") rows ≡ Some path
 abbrev pub SaysStories : List Row → List Text → Type 0
 SaysStories rows paths = (1 ≤ length paths) × (paths ≡ unwrap_or (all_of (codes "STORY") rows) [])
 
--- the code that `disasm` lists, by `--all` and `--notes`; where it is looked for beside the first instruction is found later
+-- the code that `disasm` lists, by `--all` and `--notes`; where it is looked for beside the first instruction is found
+-- later
 pub record IsCodeSaid (rows : List Row) (c : CodeListing) : Type 0 where
   pub all : c.all ≡ flag_said (first_of (codes "all") rows)
   pub notes : c.notes ≡ flag_said (first_of (codes "notes") rows)
@@ -340,11 +362,14 @@ show_said rows = record {
 abbrev pub Says : Text → List Row → Choice → Type 0
 Says name rows (Play story options) = (name ≡ codes "play") × SaysStory rows story.now × SaysOptions rows options
 Says name rows (Show stories roots options listing) =
-    SaysStories rows (map (λ s. s.now) stories.items) × SaysRoots rows roots × SaysListing name rows listing × (options ≡ show_said rows)
+    SaysStories rows (map (λ s. s.now) stories.items) × SaysRoots rows roots × SaysListing name rows listing
+    × (options ≡ show_said rows)
 Says name rows (Test paths story bless) =
-    (name ≡ codes "test") × SaysStories rows (map (λ s. s.now) paths.items) × SaysText (λ s. s.now) rows (codes "story") story
+    (name ≡ codes "test") × SaysStories rows (map (λ s. s.now) paths.items) × SaysText
+    (λ s. s.now) rows (codes "story") story
     × (bless ≡ flag_said (first_of (codes "bless") rows))
-Says name rows (Unpack file out) = (name ≡ codes "unpack") × (first_of (codes "FILE") rows ≡ Some file.now) × (first_of (codes "OUT") rows ≡ Some out.now)
+Says name rows (Unpack file out) = (name ≡ codes "unpack") × (first_of (codes "FILE") rows ≡ Some file.now)
+    × (first_of (codes "OUT") rows ≡ Some out.now)
 
 -- a command's name is none of those that list nothing
 pub record IsOtherName (name : Text) : Type 0 where
@@ -373,11 +398,12 @@ usage_status kind.DisplayVersion = 0
 usage_status kind.OutOfMemory = 5
 usage_status _ = 1
 
--- the arguments are refused: there is no memory, or clap's function of the arguments has a fault, or they ask for nothing and the
--- error is no help
+-- the arguments are refused: there is no memory, or clap's function of the arguments has a fault, or they ask for
+-- nothing and the error is no help
 abbrev pub IsRefusedWith : List Text → Error → Type 0
 IsRefusedWith arguments e =
-    HasKind (fault_of command_line arguments) e ⊎ ((1 ≤ usage_status (kind_of e)) × ((c : Choice) → Asks arguments c → ⊥))
+    HasKind (fault_of command_line arguments) e
+    ⊎ ((1 ≤ usage_status (kind_of e)) × ((c : Choice) → Asks arguments c → ⊥))
 
 -- the limits of a choice lie in their ranges
 abbrev pub HasLimits : Choice → Type 0

@@ -66,8 +66,11 @@ words_line apart words = if apart then 10 ∷ line words else line words
 
 -- a device was given a line in words on an ending, after a new line or not, or nothing
 abbrev pub TookWords : Bool → Exit → Device → Device → Type 0
-TookWords apart exit old new = Took old new [] ⊎ (IsExplained exit × (words : List ℕ) × Took old new (words_line apart words))
+TookWords apart exit old new =
+    Took old new [] ⊎ (IsExplained exit × (words : List ℕ) × Took old new (words_line apart words))
 
 -- a device was given a line in words on an ending and then some text, or that text alone
 abbrev pub TookExplained : Exit → List ℕ → Device → Device → Type 0
-TookExplained exit text old new = Took old new text ⊎ (IsExplained exit × ((apart : Bool) × ((words : List ℕ) × Took old new (words_line apart words ++ text))))
+TookExplained exit text old new =
+    Took old new text
+    ⊎ (IsExplained exit × ((apart : Bool) × ((words : List ℕ) × Took old new (words_line apart words ++ text))))

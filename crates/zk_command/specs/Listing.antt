@@ -1,5 +1,6 @@
 -- What a listing of a file shows, and how it ends.
-use Rattle.std.specs.Prelude.{◌≡◌, ◌≢◌, ◌⊎◌, ℕ, Bool, true, false, List, [], ◌∷◌, ◌++◌, map, Option, Some, None, Result, Ok, Err}
+use Rattle.std.specs.Prelude.{◌≡◌, ◌≢◌, ◌⊎◌, ℕ, Bool, true, false, List, [], ◌∷◌, ◌++◌, map, Option, Some, None, Result}
+use Rattle.std.specs.Prelude.{Ok, Err}
 use Rattle.std.specs.Io.KnownBytes.{Appends}
 use Rattle.zk_mem.specs.Fresh.{fresh}
 use Rattle.zk_mem.specs.Map.{MemoryMap}
@@ -50,7 +51,8 @@ IsAsked false s m facts = facts ≡ []
 -- facts are those of some sections that are asked for, one after another
 abbrev pub AreSections : Sections → MemoryMap → List Section → List Fact → Type 0
 AreSections asked m [] facts = facts ≡ []
-AreSections asked m (s ∷ more) facts = (first : List Fact) × (rest : List Fact) × IsAsked (asks_for asked s) s m first × AreSections asked m more rest × (facts ≡ first ++ rest)
+AreSections asked m (s ∷ more) facts = (first : List Fact) × (rest : List Fact) × IsAsked (asks_for asked s) s m
+    first × AreSections asked m more rest × (facts ≡ first ++ rest)
 
 -- facts are those of what is reached where code is named, with the routines that lie beside or without them
 abbrev pub AreCode : Bool → CodeListing → MemoryMap → List Fact → Type 0
@@ -89,8 +91,8 @@ pub record TookAll (Is : List ℕ → Type 0) (old new : Device) : Type 0 where
   pub takes : Appends old.taken new.taken text
   pub failed : new.failed ≡ old.failed
 
--- a listing was written, by what a screen took: all of a text of which something holds; or a write has failed, or there was
--- no memory, and no write has failed by that
+-- a listing was written, by what a screen took: all of a text of which something holds; or a write has failed, or there
+-- was no memory, and no write has failed by that
 abbrev pub IsWritten : {A : Type 0} → (List ℕ → Type 0) → Result A ListError → Device → Device → Type 0
 IsWritten {A} Is (Ok found) old new = TookAll Is old new
 IsWritten {A} Is (Err error.Write) old new = new.failed ≡ true
@@ -109,11 +111,12 @@ pub record IsBelow (path : Option (List ℕ)) (Is : List ℕ → Type 0) (text :
   pub is : Is below
   pub whole : text ≡ heading path None ++ below
 
--- A listing of a story has ended, by what the screen took: with findings; or it was written to its end without one; or a
--- write has failed; or there was no memory.
+-- A listing of a story has ended, by what the screen took: with findings; or it was written to its end without one; or
+-- a write has failed; or there was no memory.
 abbrev pub IsListed : Listing → MemoryMap → Option (List ℕ) → Device → Device → Exit → Type 0
 IsListed listing m path old new Found = Tells listing m true × TookAll (IsBelow path (IsListing listing m)) old new
-IsListed listing m path old new (Stopped Quit) = Tells listing m false × TookAll (IsBelow path (IsListing listing m)) old new
+IsListed listing m path old new (Stopped Quit) =
+    Tells listing m false × TookAll (IsBelow path (IsListing listing m)) old new
 IsListed listing m path old new (Stopped Write) = new.failed ≡ true
 IsListed listing m path old new (Stopped Memory) = new.failed ≡ old.failed
 IsListed listing m path old new exit = ⊥
@@ -129,7 +132,8 @@ HasPath (Some path) = Unit {0}
 
 -- a story is not listed, which ends so: as it was refused, with that said, unless the write of it has failed
 abbrev pub IsLeftOut : Option (List ℕ) → Exit → Device → Device → Exit → Type 0
-IsLeftOut path refused old new exit = ((exit ≡ refused) × SaysWhy path old new refused) ⊎ ((exit ≡ Stopped Write) × (new.failed ≡ true) × HasPath path)
+IsLeftOut path refused old new exit =
+    ((exit ≡ refused) × SaysWhy path old new refused) ⊎ ((exit ≡ Stopped Write) × (new.failed ≡ true) × HasPath path)
 
 -- a reader's bytes are a story, where no path stands before the listing
 abbrev pub IsStoryAlone : Option (List ℕ) → Option (List ℕ) → Type 0
@@ -139,4 +143,5 @@ IsStoryAlone (Some path) file = Unit {0}
 -- a reader's bytes end a listing, with 16 states to go back to; or a write has failed
 abbrev pub EndsListing : Listing → Option (List ℕ) → Option (List ℕ) → Device → Device → Exit → Type 0
 EndsListing listing path file old new (Stopped Write) = (new.failed ≡ true) × IsStoryAlone path file
-EndsListing listing path file old new exit = EndsBy file (SaysWhy path old new exit) (λ story. IsListed listing (fresh story 16) path old new) exit
+EndsListing listing path file old new exit =
+    EndsBy file (SaysWhy path old new exit) (λ story. IsListed listing (fresh story 16) path old new) exit

@@ -10,7 +10,8 @@ use Rattle.zk_command.specs.SaveFiles.{held_in, keeps_in}
 
 -- what a saved game's file tells of itself as a slot
 abbrev pub file_tells : SlotTells SaveFile
-file_tells = slot_tells (λ s. held_in s.place) (λ s file. keeps_in s.place) (λ before after file kept. Unit {0}) (λ before after file. Unit {0}) (λ before after error. Unit {0})
+file_tells = slot_tells (λ s. held_in s.place) (λ s file. keeps_in s.place) (λ before after file kept. Unit {0})
+    (λ before after file. Unit {0}) (λ before after error. Unit {0})
 
 -- by what passes between a machine and its world no game is kept, and none is found
 abbrev pub KeepsNothing : Entry → Type 0
@@ -20,4 +21,5 @@ KeepsNothing _ = Unit {0}
 
 -- where no file is named, all that passes between a play and its slot is such
 abbrev pub NothingIsKept : Type 0
-NothingIsKept = (before after : SaveFile) (entries : List Entry) → before.place ≡ None → SlotDid file_tells entries before after → AllByRecursion KeepsNothing entries
+NothingIsKept = (before after : SaveFile) (entries : List Entry) → before.place ≡ None
+    → SlotDid file_tells entries before after → AllByRecursion KeepsNothing entries

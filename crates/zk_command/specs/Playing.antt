@@ -1,5 +1,6 @@
 -- How a file is played.
-use Rattle.std.specs.Prelude.{◌≡◌, ◌⊎◌, ◌||◌, ℕ, Bool, true, false, List, [], take, Option, Some, None, IfSome, Result, Ok, Err}
+use Rattle.std.specs.Prelude.{◌≡◌, ◌⊎◌, ◌||◌, ℕ, Bool, true, false, List, [], take, Option, Some, None, IfSome, Result}
+use Rattle.std.specs.Prelude.{Ok, Err}
 use Rattle.zk_mem.specs.Story.{refusal}
 use Rattle.zk_term.specs.Devices.{Device, device}
 use Rattle.zk_vm.specs.declared.stop.Stop.{Stop}
@@ -18,21 +19,23 @@ use Rattle.zk_command.specs.declared.settings.Settings.{Settings}
 abbrev pub bytes_read : List ℕ → List ℕ
 bytes_read file = take 524289 file
 
--- the devices of a play, by what they tell of themselves: whether a read has failed; the screen, and what the transcript goes to
+-- the devices of a play, by what they tell of themselves: whether a read has failed; the screen, and what the
+-- transcript goes to
 pub record DeviceStates : Type 0 where
   pub unread : Bool
   pub screen : Device
   pub script : Device
 
--- What became of the devices of a play: what it is that a machine was played on them up to a stop, where a write has failed or
--- not; the addresses that were noted; and what the devices told before it and after it.
+-- What became of the devices of a play: what it is that a machine was played on them up to a stop, where a write has
+-- failed or not; the addresses that were noted; and what the devices told before it and after it.
 pub record Play : Type 1 where
   pub logged : Session → Stop → Bool → Taken → Taken → Type 0
   pub noted : List ℕ → Type 0
   pub old : DeviceStates
   pub new : DeviceStates
 
-abbrev pub states_of : {I S T K : Type 0} → (I → Bool) → (S → Option (List ℕ)) → (S → Bool) → (T → Option (List ℕ)) → (T → Bool) → Devices I S T K → DeviceStates
+abbrev pub states_of : {I S T K : Type 0} → (I → Bool) → (S → Option (List ℕ)) → (S → Bool)
+    → (T → Option (List ℕ)) → (T → Bool) → Devices I S T K → DeviceStates
 states_of {I} {S} {T} {K} unread seen screen_failed written script_failed d = record {
   unread = unread d.input;
   screen = device seen screen_failed d.screen;
@@ -40,7 +43,9 @@ states_of {I} {S} {T} {K} unread seen screen_failed written script_failed d = re
 }
 
 -- a play on devices, by what an input, a screen, a script and a slot for saved games tell, and by what was noted
-abbrev pub play_on : {I S T K : Type 0} → (I → Option (List ℕ)) → SourceTells I → (S → Option (List ℕ)) → (S → Bool) → (T → Option (List ℕ)) → (T → Bool) → SlotTells K → (List ℕ → Type 0) → Devices I S T K → Devices I S T K → Play
+abbrev pub play_on : {I S T K : Type 0} → (I → Option (List ℕ)) → SourceTells I → (S → Option (List ℕ))
+    → (S → Bool) → (T → Option (List ℕ)) → (T → Bool) → SlotTells K → (List ℕ → Type 0) → Devices I S T K
+    → Devices I S T K → Play
 play_on {I} {S} {T} {K} left input seen screen_failed written script_failed slot Noted old new = record {
   logged = Plays slot input left Noted old.slot new.slot old.input new.input;
   noted = Noted;
@@ -57,13 +62,14 @@ abbrev pub write_failed : DeviceStates → Bool
 write_failed d = d.screen.failed || d.script.failed
 
 -- no device has failed
-pub record Work {I S T K : Type 0} (unread : I → Bool) (screen_failed : S → Bool) (script_failed : T → Bool) (d : Devices I S T K) : Type 0 where
+pub record Work {I S T K : Type 0} (unread : I → Bool) (screen_failed : S → Bool) (script_failed : T → Bool)
+    (d : Devices I S T K) : Type 0 where
   pub input : unread d.input ≡ false
   pub screen : screen_failed d.screen ≡ false
   pub script : script_failed d.script ≡ false
 
--- A machine was played up to its stop: there is a log of it, of which each device has its part, or a first part of it where a
--- write has failed.
+-- A machine was played up to its stop: there is a log of it, of which each device has its part, or a first part of it
+-- where a write has failed.
 pub record IsPlayedBy (p : Play) (machine : Session) (stop : Stop) : Type 0 where
   pub logged : p.logged machine stop (write_failed p.new) (taken_of p.old) (taken_of p.new)
   pub unread : p.new.unread ≡ true → stop ≡ Read
@@ -76,7 +82,8 @@ pub record GotNothing (p : Play) : Type 0 where
 
 -- a story was played with its seed, limits and view, or there was no memory to start it
 abbrev pub IsRun : Play → List ℕ → Settings → Stop → Type 0
-IsRun p story settings stop = IsPlayedBy p (begun story settings.seed settings.limits settings.view) stop ⊎ ((stop ≡ Memory) × GotNothing p)
+IsRun p story settings stop =
+    IsPlayedBy p (begun story settings.seed settings.limits settings.view) stop ⊎ ((stop ≡ Memory) × GotNothing p)
 
 -- a story's run ends the program
 abbrev pub EndsRun : Play → List ℕ → Settings → Exit → Type 0
@@ -87,8 +94,8 @@ EndsRun p story settings exit = ⊥
 abbrev pub AreRead : Option (List ℕ) → List ℕ → Type 0
 AreRead file bytes = IfSome file (λ all. bytes ≡ bytes_read all)
 
--- a reader's bytes, where it tells them, are a story that has ended so; or nothing was done, since they are refused or it
--- can't be read
+-- a reader's bytes, where it tells them, are a story that has ended so; or nothing was done, since they are refused or
+-- it can't be read
 abbrev pub EndsBy : Option (List ℕ) → Type 0 → (List ℕ → Exit → Type 0) → Exit → Type 0
 EndsBy file Nothing Ended (Unread e) = Nothing
 EndsBy file Nothing Ended (Refused e) = (bytes : List ℕ) × AreRead file bytes × (refusal bytes ≡ Some e) × Nothing
@@ -104,6 +111,13 @@ pub record IsReported (Ends : Exit → Type 0) (old new : Device) (status : ℕ)
   pub ends : Ends exit
   pub status_is : status ≡ exit_status exit
   pub lines : TookExplained exit (last_line exit) old new
+
+-- the machine of a reader's story stands at its start, or there was no memory for it; or the story is refused or can't
+-- be read
+abbrev pub IsStarted : Option (List ℕ) → Settings → Result Session Exit → Type 0
+IsStarted file settings (Ok machine) = (story : List ℕ) × AreRead file story × (refusal story ≡ None)
+    × (machine ≡ begun story settings.seed settings.limits settings.view)
+IsStarted file settings (Err exit) = EndsBy file (Unit {0}) (λ story ended. ended ≡ Stopped Memory) exit
 
 -- a reader's story was opened, or it is refused or can't be read
 abbrev pub IsOpened : Option (List ℕ) → Result (List ℕ) Exit → Type 0

@@ -29,7 +29,8 @@ width_setting (Some n) = setting (codes "width") (decimal n)
 -- the story and the seed, and then those of the limits
 unfoldable pub play_settings : List ℕ → Settings → List ℕ
 play_settings story s =
-    (setting (codes "story") story ++ setting (codes "seed") (decimal s.seed)) ++ (frame_settings s.limits ++ run_settings s.limits)
+    (setting (codes "story") story ++ setting (codes "seed") (decimal s.seed))
+    ++ (frame_settings s.limits ++ run_settings s.limits)
 
 -- all of them, by the story's path
 unfoldable pub record_heading : List ℕ → Settings → Option ℕ → List ℕ

@@ -1,5 +1,6 @@
 -- What is known of the file of a saved game, by whether one is named, and what decides where one is kept or found.
-use Rattle.std.specs.Prelude.{◌≡◌, ◌≢◌, ◌/◌, ◌*◌, Bool, true, false, ℕ, List, Option, Some, None, Result, Ok, Err, bit_and, bit_or}
+use Rattle.std.specs.Prelude.{◌≡◌, ◌≢◌, ◌/◌, ◌*◌, Bool, true, false, ℕ, List, Option, Some, None, Result, Ok, Err}
+use Rattle.std.specs.Prelude.{bit_and, bit_or}
 use Rattle.std.specs.Fs.{IsFile, file_type}
 use Rattle.std.specs.IoError.{error_kind}
 use Rattle.std.specs.declared.fs.attrs.Metadata.{Metadata}
@@ -43,8 +44,8 @@ IsAnswer {F} {A} (Err why) (Ok None) = lacks_memory why ≡ false
 IsAnswer {F} {A} (Err why) (Err error) = lacks_memory why ≡ true
 IsAnswer {F} {A} found answer = ⊥
 
--- The rights in a new file, by those in the old one (three bits each for its owner, its group and all others). Where the
--- group can't be kept, its members are among the others and some others in the group: both can do what both could.
+-- The rights in a new file, by those in the old one (three bits each for its owner, its group and all others). Where
+-- the group can't be kept, its members are among the others and some others in the group: both can do what both could.
 abbrev pub rights_left : ℕ → Bool → ℕ
 rights_left mode true = bit_and mode 0o777
 rights_left mode false = let both = bit_and (bit_and (mode / 8) mode) 0o7 in bit_or (bit_and mode 0o700) (both * 9)

@@ -1,7 +1,7 @@
 // What is known of a run, for the lines in words.
 
 use crate::bad_destination::BadDestination;
-use crate::watched::Notes;
+use crate::watched::DeviceNotes;
 use std::cell::Cell;
 
 /// What the first bytes of a file look like.
@@ -71,8 +71,8 @@ impl Looks {
     }
 }
 
-/// What is known of a run: the paths of its files, what stands in the line before a listing, what the story's file looks
-/// like, how its devices went, and where a bad target leads.
+/// What is known of a run: the paths of its files, what stands in the line before a listing, what the story's file
+/// looks like, how its devices went, and where a bad target leads.
 #[derive(Drop)]
 pub struct About<'a> {
     pub path: &'a str,
@@ -84,10 +84,10 @@ pub struct About<'a> {
     /// Whether the calls that led to a fault or a limit are told, and what is told of them.
     pub tells_calls: bool,
     pub calls: Cell<Option<String>>,
-    pub input: Notes,
-    pub screen: Notes,
-    pub script: Notes,
-    pub record: Notes,
+    pub input: DeviceNotes,
+    pub screen: DeviceNotes,
+    pub script: DeviceNotes,
+    pub record: DeviceNotes,
 }
 
 impl<'a> About<'a> {
@@ -101,10 +101,10 @@ impl<'a> About<'a> {
             bad_destination: Cell::new(None),
             tells_calls: false,
             calls: Cell::new(None),
-            input: Notes::new(),
-            screen: Notes::new(),
-            script: Notes::new(),
-            record: Notes::new(),
+            input: DeviceNotes::new(),
+            screen: DeviceNotes::new(),
+            script: DeviceNotes::new(),
+            record: DeviceNotes::new(),
         }
     }
 

@@ -15,17 +15,17 @@ use zk_term::target::Failed;
 const MOST_BYTES: u32 = 4096;
 
 /// Standard output, with notes on how it went.
-pub type Screen<'a> = IoDevice<Watched<'a, Printer<'a, HostRuntime>>>;
+pub type StandardOutput<'a> = IoDevice<Watched<'a, Printer<'a, HostRuntime>>>;
 
 /// What is typed: it is recorded, and then shown, where that is asked for.
-pub type Typed<'a> = Echo<Echo<IoDevice<Watched<'a, Stdin>>, Record<'a>>, Screen<'a>>;
+pub type TypedInput<'a> = Echo<Echo<IoDevice<Watched<'a, Stdin>>, Record<'a>>, StandardOutput<'a>>;
 
 /// Asks on standard error, and reads answers from what is typed, a byte at a time: what comes after an answer is left
 /// for others that read it.
 #[derive(Drop)]
 pub struct Asker<'a> {
     rt: &'a HostRuntime,
-    input: Typed<'a>,
+    input: TypedInput<'a>,
 }
 
 /// What is made of an answer's bytes: a text without spaces at its ends, where it is one.
@@ -37,7 +37,7 @@ fn answer_in(alloc: Global, bytes: &[u8]) -> Option<String> {
 }
 
 impl<'a> Asker<'a> {
-    pub fn new(rt: &'a HostRuntime, input: Typed<'a>) -> Asker<'a> {
+    pub fn new(rt: &'a HostRuntime, input: TypedInput<'a>) -> Asker<'a> {
         Asker { rt, input }
     }
 

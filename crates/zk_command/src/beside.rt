@@ -16,8 +16,8 @@ fn sum_of(name: &[u8]) -> u64 {
     sum
 }
 
-/// The name of the file beside a saved game. Only plays that save to the same name have it in common, and it is as short
-/// where that name is as long as a name may be.
+/// The name of the file beside a saved game. Only plays that save to the same name have it in common, and it is as
+/// short where that name is as long as a name may be.
 fn name_beside(alloc: Global, path: &str) -> io::Result<String> {
     let (folder, name) = path.rsplit_once('/').unwrap_or((".", path));
     let sum = sum_of(name.as_bytes());

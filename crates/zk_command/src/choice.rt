@@ -1,6 +1,7 @@
 // What the arguments of the command line ask for.
 
-ghost use Rattle.std.specs.Prelude.{◌≡◌, ◌≤◌, ◌⊎◌, ℕ, List, codes, IfErr, IfNone, IfOk, IfSome, OnErr, SomeIff, Option, Some, false, [], map, option_map, unwrap_or};
+ghost use Rattle.std.specs.Prelude.{◌≡◌, ◌≤◌, ◌⊎◌, ℕ, List, codes, IfErr, IfNone, IfOk, IfSome, OnErr, SomeIff, Option};
+ghost use Rattle.std.specs.Prelude.{Some, false, [], map, option_map, unwrap_or};
 ghost use Rattle.std.specs.Str.{bytes_eq};
 ghost use Rattle.clap.specs.Words.{App, all_of, app_of, with_rule, first_of, found_of, kind_of, rows_of, rule_of};
 ghost use Rattle.clap.specs.declared.error.ErrorKind.TheVariants.{OutOfMemory};
@@ -11,7 +12,13 @@ ghost use Rattle.zk_command.specs.declared.choice.Choice.{Choice};
 ghost use Rattle.zk_command.specs.declared.listing.Listing.{Listing};
 ghost use Rattle.zk_command.specs.declared.settings.Amount.{Amount};
 ghost use Rattle.zk_command.specs.declared.settings.PlayOptions.{PlayOptions};
-ghost use Rattle.zk_command.specs.CommandLine.{Asks, HasLimits, IsAmount, IsNumberIn, IsOtherName, IsRefusedWith, MaySayAmount, MetSays, IsCodeSaid, IsNamed, AreTexts, SaysRoots, Says, SaysLimits, SaysListing, SaysNumber, SaysOptions, SaysSeed, SaysStory, command_line, file_argument, flag_said, form_said, has_others, sections_named, named_option, number_in, number_rule, option_rule, sections_said, show_said, story_argument, table_command, usage_status, view_said, with_tables, word_of};
+ghost use Rattle.zk_command.specs.CommandLine.{Asks, HasLimits, IsAmount, IsNumberIn, IsOtherName, IsRefusedWith};
+ghost use Rattle.zk_command.specs.CommandLine.{MaySayAmount, MetSays, IsCodeSaid, IsNamed, AreTexts, SaysRoots, Says};
+ghost use Rattle.zk_command.specs.CommandLine.{SaysLimits, SaysListing, SaysNumber, SaysOptions, SaysSeed, SaysStory};
+ghost use Rattle.zk_command.specs.CommandLine.{command_line, file_argument, flag_said, form_said, has_others};
+ghost use Rattle.zk_command.specs.CommandLine.{sections_named, named_option, number_in, number_rule, option_rule};
+ghost use Rattle.zk_command.specs.CommandLine.{sections_said, show_said, story_argument, table_command, usage_status};
+ghost use Rattle.zk_command.specs.CommandLine.{view_said, with_tables, word_of};
 
 use crate::listing::{CodeListing, Listing, Sections};
 use crate::options::{
@@ -121,8 +128,8 @@ fn option_of<'a>(alloc: Global, option: CommandOption) -> Arg<'a>
     }
 }
 
-/// A command with an argument as well. Arguments are made and added one by one, so that none waits where there is no memory
-/// for another.
+/// A command with an argument as well. Arguments are made and added one by one, so that none waits where there is no
+/// memory for another.
 fn with_arg<'a>(command: Command<'a>, arg: Arg<'a>) -> Result<Command<'a>, AllocError>
     requires local { (fields_of command).has_globals ≡ false }
     requires arg_local { arg.global ≡ false }
@@ -178,7 +185,7 @@ fn command_line_of<'a>(alloc: Global) -> Result<Command<'a>, AllocError>
 }
 
 /// The number that an argument says, if it lies in a range.
-fn number_from(argument: &str, number: NumberOption) -> Option<u64>
+pub(crate) fn number_from(argument: &str, number: NumberOption) -> Option<u64>
     ensures { SomeIff result (IsNumberIn number.least number.most argument.now) (number_in argument.now) }
 {
     match argument.parse::<u64>() {

@@ -63,7 +63,8 @@ fn write_refused<S: Target>(screen: &mut S, path: &str, error: &OpenError) -> Re
     }
 }
 
-/// Writes the line before a listing, by the path of one of several stories; where that one is not listed the line says why.
+/// Writes the line before a listing, by the path of one of several stories; where that one is not listed the line says
+/// why.
 pub fn write_heading<S: Target>(
     screen: &mut S,
     path: Option<&str>,

@@ -45,8 +45,8 @@ fn save_place(rt: &HostRuntime, path: &str) -> Result<SaveTarget, NoGame> {
     })
 }
 
-/// Who may do what with a new file, by the bits of the old one. Where that one's group can't be kept, its members are among
-/// all others, and others may be among its group: then the group and others may do what both could before.
+/// Who may do what with a new file, by the bits of the old one. Where that one's group can't be kept, its members are
+/// among all others, and others may be among its group: then the group and others may do what both could before.
 fn rights_of(mode: u32, has_group: bool) -> u32
     ensures { result ≡ rights_left mode has_group }
 {
@@ -57,8 +57,8 @@ fn rights_of(mode: u32, has_group: bool) -> u32
     (mode & 0o700) | (both * 9)
 }
 
-/// Gives a file the owner, the group and the rights of an old one, and tells whether the system allows that. It may change
-/// the group where it does not change the owner.
+/// Gives a file the owner, the group and the rights of an old one, and tells whether the system allows that. It may
+/// change the group where it does not change the owner.
 fn hand_over(file: &File, old: &Metadata) -> io::Result<bool> {
     if fchown(file, Some(old.uid()), Some(old.gid())).is_err() {
         let _ = fchown(file, None, Some(old.gid()));
@@ -109,26 +109,48 @@ fn replace(rt: &HostRuntime, place: &SaveTarget, bytes: &[u8]) -> Result<bool, N
     }
 }
 
-/// Keeps a saved game in a file, and tells whether that has the owner and the group of the one before.
-pub(crate) fn keep(rt: &HostRuntime, path: &str, bytes: &[u8]) -> Result<bool, NoGame> {
-    let place = save_place(rt, path)?;
-    replace(rt, &place, bytes)
+/// What is kept in a file.
+#[derive(Clone, Copy, Drop)]
+pub enum Kept {
+    Game,
+    List,
 }
 
-/// Keeps a list in a file as a saved game is kept, and tells why where it can't.
-pub fn keep_list(rt: &HostRuntime, path: &str, bytes: &[u8]) -> bool {
-    match keep(rt, path, bytes) {
-        Ok(true) => true,
-        Ok(false) => {
-            let text = "the file has another owner or group than before";
-            let _ = eprintln!(rt; "zkit: {}: {}", Shown(path), text);
-            true
-        }
-        Err(error) => {
-            let _ = eprintln!(rt; "zkit: {}: {}", Shown(path), error);
-            false
+impl Kept {
+    /// The words before why it was not kept.
+    fn not_kept(self) -> &'static str {
+        match self {
+            Kept::Game => "the game was not saved: ",
+            Kept::List => "",
         }
     }
+
+    /// The words where it was kept, and the file is not whose it was.
+    fn kept_otherwise(self) -> &'static str {
+        match self {
+            Kept::Game => "the game was saved, but the file has another owner or group than before",
+            Kept::List => "the file has another owner or group than before",
+        }
+    }
+}
+
+/// Keeps bytes in a file, in place of what it had, and tells why where it can't, or where the file has another owner or
+/// group than before.
+pub fn keep(rt: &HostRuntime, path: &str, bytes: &[u8], what: Kept) -> bool {
+    let kept = match save_place(rt, path) {
+        Ok(place) => replace(rt, &place, bytes),
+        Err(error) => Err(error),
+    };
+    match &kept {
+        Ok(true) => {}
+        Ok(false) => {
+            let _ = eprintln!(rt; "zkit: {}: {}", Shown(path), what.kept_otherwise());
+        }
+        Err(error) => {
+            let _ = eprintln!(rt; "zkit: {}: {}{}", Shown(path), what.not_kept(), error);
+        }
+    }
+    kept.is_ok()
 }
 
 /// The bytes of a file, unless it is longer than a saved game may be.

@@ -1,4 +1,5 @@
-// What the arguments of a command line ask for: stories that are played, listed and checked, and what is told of their endings.
+// What the arguments of a command line ask for: stories that are played, listed and checked, and what is told of their
+// endings.
 #![tactic(auto)]
 
 pub mod about;
@@ -13,6 +14,7 @@ pub mod exit;
 pub mod heading;
 pub mod keeping;
 pub mod listing;
+pub mod manner;
 mod no_game;
 pub mod opening;
 mod options;

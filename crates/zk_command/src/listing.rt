@@ -8,7 +8,8 @@ ghost use Rattle.zk_inspect.specs.Facts.{GaveBy};
 ghost use Rattle.zk_inspect.specs.Lines.{WroteLines};
 ghost use Rattle.zk_inspect.specs.Sections.{all_sections};
 ghost use Rattle.zk_command.specs.Headings.{heading};
-ghost use Rattle.zk_command.specs.Listing.{AreAny, AreCode, AreListed, AreSections, EndsListing, IsAsked, IsLeftOut, IsListed, IsListing, IsWritten, Tells, asks_for, exit_by, has_notes};
+ghost use Rattle.zk_command.specs.Listing.{AreAny, AreCode, AreListed, AreSections, EndsListing, IsAsked, IsLeftOut};
+ghost use Rattle.zk_command.specs.Listing.{IsListed, IsListing, IsWritten, Tells, asks_for, exit_by, has_notes};
 ghost use Rattle.zk_command.specs.Playing.{IsReported};
 ghost use Rattle.zk_command.specs.Verdict.{IsStart};
 ghost use Rattle.zk_command.specs.declared.listing.Listing.TheVariants as listing;
@@ -32,7 +33,8 @@ use zk_term::line_writer::{LineWriter, TargetWriter};
 use zk_term::target::{Failed, Target};
 use zk_vm::stop::Stop;
 
-/// How many states to go back to the header's fields speak of where a story is listed: what `play` has without `--undo`.
+/// How many states to go back to the header's fields speak of where a story is listed: what `play` has without
+/// `--undo`.
 const UNDO_STATES: u8 = 16;
 
 /// Which sections are shown.
@@ -261,8 +263,8 @@ fn list_lines<P: LineWriter>(
     list(alloc, memory, listing, &mut text)
 }
 
-/// Writes a listing as lines, and tells whether it says that something is wrong. Refused where a write fails, and for lack of
-/// memory.
+/// Writes a listing as lines, and tells whether it says that something is wrong. Refused where a write fails, and for
+/// lack of memory.
 pub fn list_text<T: Target>(
     alloc: Global,
     memory: &Memory,

@@ -49,8 +49,8 @@ impl NoGame {
     }
 }
 
-/// What is answered where a saved game is asked for: the file that was found, or none, whatever the reason, unless there
-/// was no memory to look for it.
+/// What is answered where a saved game is asked for: the file that was found, or none, whatever the reason, unless
+/// there was no memory to look for it.
 pub(crate) fn answer_of(found: Result<Vec<u8>, NoGame>) -> Result<Option<Vec<u8>>, AllocError>
     ensures { IsAnswer found result }
 {

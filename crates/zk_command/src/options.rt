@@ -97,7 +97,8 @@ pub(crate) const STEPS: NumberOption =
     number!("steps", Some("10000000"), 1 to 1000000000, "The most instructions a story may run between two inputs");
 
 pub(crate) const SEED: NumberOption =
-    number!("seed", Some("1"), 0 to 18446744073709551615, "Seed for random numbers", or "any" "takes one from the clock");
+    number!("seed", Some("1"), 0 to 18446744073709551615, "Seed for random numbers",
+        or "any" "takes one from the clock");
 
 pub(crate) const WIDTH: NumberOption =
     number!("width", None, 20 to 255, "Wraps lines at this many columns", or "auto" "uses the terminal's width");

@@ -4,7 +4,7 @@ ghost use Rattle.std.specs.Prelude.{◌≡◌, false};
 ghost use Rattle.zk_term.specs.Devices.{device};
 ghost use Rattle.zk_vm.specs.Bounds.{AreInRange};
 ghost use Rattle.zk_vm.specs.Plays.{slot_tells, source_tells};
-ghost use Rattle.zk_command.specs.Playing.{EndsPlay, IsReported, Work, play_on};
+ghost use Rattle.zk_command.specs.Playing.{EndsPlay, IsReported, IsStarted, Work, play_on};
 
 use crate::about::About;
 use crate::bad_destination::BadDestination;
@@ -36,6 +36,16 @@ pub struct Devices<I, S, T, K> {
     pub slot: K,
 }
 
+/// A play that is asked for.
+#[derive(Drop)]
+pub struct PlayRequest<'a, R> {
+    /// Gives the bytes of the story.
+    pub story: R,
+    /// What is told of the play.
+    pub about: &'a About<'a>,
+    pub settings: Settings,
+}
+
 /// Notes where a bad target leads that has stopped a machine.
 fn note_target(about: &About, machine: &Machine, stop: &Stop) {
     if let Stop::Fault(address, Fault::BadTarget) = stop {
@@ -61,35 +71,58 @@ pub fn note_stop(alloc: Global, about: &About, machine: &Machine, stop: &Stop) {
     note_calls(alloc, about, machine, stop);
 }
 
-/// Plays the story that a reader gives: the lines of the input answer its reads, and the slot keeps its saved game. Where the
-/// instructions stand that are carried out is noted.
-pub fn play_file<R: Read + Drop, I: Source, S: Target, T: Target, K: SaveSlot, P: Places>(
+/// The machine of a story at its start.
+pub fn start<R: Read + Drop>(alloc: Global, request: PlayRequest<R>) -> Result<Machine, Exit>
+    requires { AreInRange request.settings.limits }
+    ensures { IsStarted (R.remaining request.entry.story) request.entry.settings result }
+{
+    let PlayRequest {
+        story,
+        about,
+        settings,
+    } = request;
+    let story = match open_story(alloc, story, about) {
+        Ok(story) => story,
+        Err(exit) => return Err(exit),
+    };
+    let Settings { limits, seed, view } = settings;
+    match Machine::start(alloc, story, seed, limits, view) {
+        Ok(machine) => Ok(machine),
+        Err(_) => Err(Exit::Stopped(Stop::Memory)),
+    }
+}
+
+/// Plays a story: the lines of the input answer its reads, and the slot keeps its saved game. Where the instructions
+/// stand that are carried out is noted. Reports how that ends, and answers the program's status.
+pub fn play_and_report<
+    R: Read + Drop,
+    I: Source,
+    S: Target,
+    T: Target,
+    K: SaveSlot,
+    P: Places,
+    E: Target,
+>(
     alloc: Global,
-    reader: R,
-    about: &About,
-    settings: Settings,
+    request: PlayRequest<R>,
     devices: &mut Devices<I, S, T, K>,
     places: &mut P,
-) -> Exit
-    requires in_range { AreInRange settings.limits }
+    errors: &mut E,
+) -> u8
+    requires in_range { AreInRange request.settings.limits }
     requires works { Work I.failed S.failed T.failed devices.old }
-    ensures { EndsPlay (play_on I.left (source_tells I.ends I.fails I.gives I.failed) S.taken
-        S.failed T.taken T.failed (slot_tells K.held K.keeps K.puts K.gets K.hears)
-        (P.noted places.old places.new) devices.old devices.new) (R.remaining reader) settings result }
+    requires errors_work { E.failed errors.old ≡ false }
+    ensures { IsReported (EndsPlay (play_on I.left (source_tells I.ends I.fails I.gives I.failed)
+        S.taken S.failed T.taken T.failed (slot_tells K.held K.keeps K.puts K.gets K.hears)
+        (P.noted places.old places.new) devices.old devices.new) (R.remaining request.entry.story)
+        request.entry.settings) (device E.taken E.failed errors.old) (device E.taken E.failed errors.new)
+        result }
 {
-    let story = match open_story(alloc, reader, about) {
-        Ok(story) => story,
-        Err(exit) => return exit,
-    };
-    let Settings {
-        seed,
-        limits,
-        view,
-        ..
-    } = settings;
-    let mut machine = match Machine::start(alloc, story, seed, limits, view) {
+    let about = request.about;
+    let limits = request.settings.limits;
+    let mut machine = match start(alloc, request) {
         Ok(machine) => machine,
-        Err(_) => return Exit::Stopped(Stop::Memory),
+        Err(exit) => return report(alloc, &exit, &limits, about, errors),
     };
     // a write of no bytes makes the script's file before the run
     let stop = match devices.script.write(&[]) {
@@ -105,35 +138,5 @@ pub fn play_file<R: Read + Drop, I: Source, S: Target, T: Target, K: SaveSlot, P
         ),
     };
     note_stop(alloc, about, &machine, &stop);
-    Exit::Stopped(stop)
-}
-
-/// Plays the story that a reader gives, reports how that ends, and answers the program's status.
-pub fn play_and_report<
-    R: Read + Drop,
-    I: Source,
-    S: Target,
-    T: Target,
-    K: SaveSlot,
-    P: Places,
-    E: Target,
->(
-    alloc: Global,
-    reader: R,
-    about: &About,
-    settings: Settings,
-    devices: &mut Devices<I, S, T, K>,
-    places: &mut P,
-    errors: &mut E,
-) -> u8
-    requires in_range { AreInRange settings.limits }
-    requires works { Work I.failed S.failed T.failed devices.old }
-    requires errors_work { E.failed errors.old ≡ false }
-    ensures { IsReported (EndsPlay (play_on I.left (source_tells I.ends I.fails I.gives I.failed)
-        S.taken S.failed T.taken T.failed (slot_tells K.held K.keeps K.puts K.gets K.hears)
-        (P.noted places.old places.new) devices.old devices.new) (R.remaining reader) settings)
-        (device E.taken E.failed errors.old) (device E.taken E.failed errors.new) result }
-{
-    let exit = play_file(alloc, reader, about, settings, devices, places);
-    report(alloc, &exit, &settings.limits, about, errors)
+    report(alloc, &Exit::Stopped(stop), &limits, about, errors)
 }

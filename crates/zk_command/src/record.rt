@@ -2,7 +2,8 @@
 
 ghost use Rattle.std.specs.Prelude.{◌≡◌, ◌++◌, codes, decimal, false, is_err};
 ghost use Rattle.zk_term.specs.LineWriters.{Wrote};
-ghost use Rattle.zk_command.specs.Records.{frame_settings, play_settings, record_heading, run_settings, setting, view_setting, width_setting};
+ghost use Rattle.zk_command.specs.Records.{frame_settings, play_settings, record_heading, run_settings, setting};
+ghost use Rattle.zk_command.specs.Records.{view_setting, width_setting};
 
 use crate::settings::Settings;
 use crate::watched::Watched;

@@ -3,7 +3,8 @@
 ghost use Rattle.std.specs.Prelude.{◌≡◌, false, is_err, [], IfOk, OnSome};
 ghost use Rattle.std.specs.List.{flat_map};
 ghost use Rattle.zk_term.specs.Devices.{Took, device};
-ghost use Rattle.zk_command.specs.LastLine.{IsExplained, TookExplained, TookWords, cause_at, last_line, line, refused_words, stop_line, unread_words, words_line};
+ghost use Rattle.zk_command.specs.LastLine.{IsExplained, TookExplained, TookWords, cause_at, last_line, line};
+ghost use Rattle.zk_command.specs.LastLine.{refused_words, stop_line, unread_words, words_line};
 ghost use Rattle.zk_command.specs.Status.{exit_status};
 
 use crate::about::About;
@@ -11,7 +12,7 @@ use crate::arguments::NO_TEXT;
 use crate::exit::Exit;
 use crate::reason::Reason;
 use crate::shown::Shown;
-use crate::watched::Notes;
+use crate::watched::DeviceNotes;
 use itoa::Buffer;
 use std::alloc::{AllocError, Global};
 use std::io::{self, ErrorKind};
@@ -175,7 +176,7 @@ fn words_on_refusal(alloc: Global, error: &OpenError, about: &About) -> Result<S
 fn words_on_device(
     alloc: Global,
     name: &str,
-    notes: &Notes,
+    notes: &DeviceNotes,
     otherwise: &str,
 ) -> Result<String, AllocError> {
     match notes.failure() {
@@ -239,8 +240,8 @@ fn words_on(
     }
 }
 
-/// Writes what has happened, in words, where there is memory for them, after a new line where the screen does not stand at
-/// the start of a line.
+/// Writes what has happened, in words, where there is memory for them, after a new line where the screen does not stand
+/// at the start of a line.
 fn write_words<E: Target>(
     alloc: Global,
     exit: &Exit,
@@ -313,7 +314,8 @@ pub fn report<E: Target>(
     }
 }
 
-/// Writes why a listing has ended, unless it was written to its end, and answers the program's status, as `report` does.
+/// Writes why a listing has ended, unless it was written to its end, and answers the program's status, as `report`
+/// does.
 pub fn report_listing<E: Target>(alloc: Global, exit: &Exit, about: &About, errors: &mut E) -> u8
     requires { E.failed errors.old ≡ false }
     ensures status { result ≡ exit_status exit.now }

@@ -5,7 +5,7 @@ ghost use Rattle.zk_command.specs.NoFile.{NothingIsKept};
 
 use crate::arguments::NO_TEXT;
 use crate::asking::Asker;
-use crate::keeping::{find, keep};
+use crate::keeping::{Kept, find, keep};
 use crate::no_game::{NoGame, answer_of};
 use crate::shown::Shown;
 use std::alloc::{AllocError, Global};
@@ -15,21 +15,21 @@ use zk_vm::slot::SaveSlot;
 
 /// Where saved games are kept.
 #[derive(Clone, Copy, Drop)]
-pub enum Place<'a> {
+pub enum SavePlace<'a> {
     /// In one file.
     File(&'a str),
     /// In files of a folder, whose names are asked for.
     Folder(&'a str),
 }
 
-/// A file that holds a saved game, where options name one or its folder. A new game is written beside it and then takes its
-/// place: where that fails, the one before stays whole. What goes wrong is told on standard error, and so is once that no
-/// file is named. In a folder each save and restore asks for the file's name, and offers the one before; a file that is
-/// there is replaced where that is allowed.
+/// A file that holds a saved game, where options name one or its folder. A new game is written beside it and then takes
+/// its place: where that fails, the one before stays whole. What goes wrong is told on standard error, and so is once
+/// that no file is named. In a folder each save and restore asks for the file's name, and offers the one before; a file
+/// that is there is replaced where that is allowed.
 #[derive(Drop)]
 pub struct SaveFile<'a> {
     rt: &'a HostRuntime,
-    place: Option<Place<'a>>,
+    place: Option<SavePlace<'a>>,
     asker: Asker<'a>,
     /// The name that is offered in a folder.
     offered: String,
@@ -41,7 +41,7 @@ pub struct SaveFile<'a> {
 impl<'a> SaveFile<'a> {
     pub fn new(
         rt: &'a HostRuntime,
-        place: Option<Place<'a>>,
+        place: Option<SavePlace<'a>>,
         asker: Asker<'a>,
         offered: String,
     ) -> SaveFile<'a> {
@@ -95,7 +95,7 @@ impl<'a> SaveFile<'a> {
         if is_there && !self.asker.may_replace(path.as_str()) {
             return false;
         }
-        keep_in(self.rt, path.as_str(), file)
+        keep(self.rt, path.as_str(), file, Kept::Game)
     }
 
     /// The saved game in a file of a folder.
@@ -118,22 +118,6 @@ fn is_name(text: &str) -> bool {
         && text != ".."
         && !text.contains('/')
         && !text.contains(NO_TEXT)
-}
-
-/// Keeps a saved game in a file, and tells why where it can't.
-fn keep_in(rt: &HostRuntime, path: &str, file: &[u8]) -> bool {
-    match keep(rt, path, file) {
-        Ok(true) => true,
-        Ok(false) => {
-            let text = "the game was saved, but the file has another owner or group than before";
-            let _ = eprintln!(rt; "zkit: {}: {}", Shown(path), text);
-            true
-        }
-        Err(error) => {
-            let _ = eprintln!(rt; "zkit: {}: the game was not saved: {}", Shown(path), error);
-            false
-        }
-    }
 }
 
 /// Tells why a saved game is refused.
@@ -166,8 +150,8 @@ impl SaveSlot for SaveFile<'_> {
                 self.tell_missing();
                 false
             }
-            Some(Place::File(path)) => keep_in(self.rt, path, file),
-            Some(Place::Folder(folder)) => self.put_named(folder, file),
+            Some(SavePlace::File(path)) => keep(self.rt, path, file, Kept::Game),
+            Some(SavePlace::Folder(folder)) => self.put_named(folder, file),
         }
     }
 
@@ -177,13 +161,13 @@ impl SaveSlot for SaveFile<'_> {
                 self.tell_missing();
                 Ok(None)
             }
-            Some(Place::File(path)) => find_in(self.rt, alloc, path),
-            Some(Place::Folder(folder)) => self.get_named(folder, alloc),
+            Some(SavePlace::File(path)) => find_in(self.rt, alloc, path),
+            Some(SavePlace::Folder(folder)) => self.get_named(folder, alloc),
         }
     }
 
     fn refuse(&mut self, error: RestoreError) {
-        if let Some(Place::File(path)) = self.place {
+        if let Some(SavePlace::File(path)) = self.place {
             tell_refused(self.rt, path, error);
         } else if let Some(path) = &self.named {
             tell_refused(self.rt, path.as_str(), error);

@@ -3,25 +3,25 @@
 ghost use Rattle.std.specs.Prelude.{◌≡◌, ◌≤◌, ◌<◌, false, length, IfOk, IsSome, OnOk};
 ghost use Rattle.zk_command.specs.ScriptFiles.{failed_in};
 
-use crate::watched::{Notes, Watched};
+use crate::watched::{DeviceNotes, Watched};
 use std::fs::File;
 use zk_term::io_device::IoDevice;
 use zk_term::target::{Failed, Target};
 
-/// A file that the first write makes or empties, even a write of no bytes, where an option names one. Without one what it
-/// takes is dropped, and standard error says so once.
+/// A file that the first write makes or empties, even a write of no bytes, where an option names one. Without one what
+/// it takes is dropped, and standard error says so once.
 #[derive(Drop)]
 pub struct ScriptFile<'a> {
     rt: &'a HostRuntime,
     path: Option<&'a str>,
-    notes: &'a Notes,
+    notes: &'a DeviceNotes,
     file: Option<IoDevice<Watched<'a, File>>>,
     told: bool,
     failed: bool,
 }
 
 impl<'a> ScriptFile<'a> {
-    pub fn new(rt: &'a HostRuntime, path: Option<&'a str>, notes: &'a Notes) -> ScriptFile<'a>
+    pub fn new(rt: &'a HostRuntime, path: Option<&'a str>, notes: &'a DeviceNotes) -> ScriptFile<'a>
         ensures { failed_in result.path result.failed ≡ false }
     {
         ScriptFile {
@@ -53,7 +53,7 @@ impl<'a> ScriptFile<'a> {
 fn write_to<'a>(
     rt: &HostRuntime,
     path: &str,
-    notes: &'a Notes,
+    notes: &'a DeviceNotes,
     file: &mut Option<IoDevice<Watched<'a, File>>>,
     bytes: &[u8],
 ) -> Result<usize, Failed>

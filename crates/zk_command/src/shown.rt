@@ -2,8 +2,8 @@
 
 use std::fmt::{self, Display, Formatter, Write};
 
-/// A text that is no part of the program, as a path: each control character is shown as `?`, so that none of them reaches
-/// a terminal.
+/// A text that is no part of the program, as a path: each control character is shown as `?`, so that none of them
+/// reaches a terminal.
 #[derive(Drop)]
 pub struct Shown<'a>(pub &'a str);
 

@@ -50,7 +50,8 @@ fn number_in(rt: &HostRuntime, variable: &str, least: u64, most: u64) -> Option<
     }
 }
 
-/// The columns of the terminal that standard output is: those that `COLUMNS` says, else 80. None where it is no terminal.
+/// The columns of the terminal that standard output is: those that `COLUMNS` says, else 80. None where it is no
+/// terminal.
 pub fn columns(rt: &HostRuntime) -> Option<u64> {
     if is_terminal(rt, OUTPUT) {
         Some(number_in(rt, "COLUMNS", 20, 255).unwrap_or(COLUMNS))

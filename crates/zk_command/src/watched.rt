@@ -5,17 +5,18 @@ ghost use Rattle.std.specs.Prelude.{◌≡◌, ◌≤◌, length, IfOk};
 use std::cell::Cell;
 use std::io::{self, Read, Write};
 
-/// What is noted of a device: whether it failed, the system's number for that, and whether it stands at the start of a line.
+/// What is noted of a device: whether it failed, the system's number for that, and whether it stands at the start of a
+/// line.
 #[derive(Drop)]
-pub struct Notes {
+pub struct DeviceNotes {
     failed: Cell<bool>,
     number: Cell<Option<i32>>,
     begins_line: Cell<bool>,
 }
 
-impl Notes {
-    pub fn new() -> Notes {
-        Notes {
+impl DeviceNotes {
+    pub fn new() -> DeviceNotes {
+        DeviceNotes {
             failed: Cell::new(false),
             number: Cell::new(None),
             begins_line: Cell::new(true),
@@ -49,11 +50,11 @@ impl Notes {
 #[derive(Drop)]
 pub struct Watched<'a, T> {
     inner: T,
-    notes: &'a Notes,
+    notes: &'a DeviceNotes,
 }
 
 impl<'a, T> Watched<'a, T> {
-    pub fn new(inner: T, notes: &'a Notes) -> Watched<'a, T> {
+    pub fn new(inner: T, notes: &'a DeviceNotes) -> Watched<'a, T> {
         Watched { inner, notes }
     }
 }

@@ -34,4 +34,5 @@ is_about_object _ = false
 
 -- the object that a finding is about
 abbrev pub object_of : MemoryMap → Finding → Option ℕ
-object_of m f = if is_about_object f.number then object_at (header_of m.file).version (header_of m.file).objects f.address else None
+object_of m f = if is_about_object f.number then object_at (header_of m.file).version (header_of m.file).objects
+    f.address else None

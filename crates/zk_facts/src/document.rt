@@ -62,7 +62,15 @@ fn put_value(json: &mut Writer, alloc: Global, value: Value<'_>) -> Result<(), A
         Value::Verdict(right) => json.boolean(right),
         Value::Again => json.boolean(true),
         Value::Unknown => Ok(()),
-        value => json.string(text_of(alloc, value)?.as_str()),
+        Value::Words(_)
+        | Value::Address(_)
+        | Value::Word(_)
+        | Value::Byte(_)
+        | Value::Serial(_)
+        | Value::Ifid(_)
+        | Value::Bytes(_, _)
+        | Value::Finding(_)
+        | Value::Fault(_) => json.string(text_of(alloc, value)?.as_str()),
     }
 }
 
@@ -139,7 +147,8 @@ impl MemberWriter for Document {
     }
 }
 
-/// The object of what was looked at, on a line: its form, the path, and a member for each section; or `refused` or `unread`.
+/// The object of what was looked at, on a line: its form, the path, and a member for each section; or `refused` or
+/// `unread`.
 pub fn object_about(alloc: Global, looked: &Looked<'_>) -> Result<Vec<u8>, AllocError> {
     let mut json = Writer::new(Vec::new(alloc));
     json.begin_object()?;

@@ -1,6 +1,6 @@
 // Worked examples of the definitions, which refuse one that is turned together with its body.
 
-ghost use Rattle.zk_facts.specs.Examples.{FieldsAreEscaped};
+ghost use Rattle.zk_facts.specs.guards.Examples.{FieldsAreEscaped};
 
 /// Small fields, byte by byte.
 #[tactic(auto)]

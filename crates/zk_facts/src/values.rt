@@ -106,7 +106,12 @@ pub(crate) fn text_of(alloc: Global, value: Value<'_>) -> Result<String, AllocEr
         Value::Bytes(memory, property) => bytes_of(alloc, memory, property),
         Value::Finding(number) => format!(in alloc; "C{}", number.number()),
         Value::Fault(fault) => format!(in alloc; "F{}", fault.number()),
-        _ => Ok(String::new(alloc)),
+        Value::Text(_, _)
+        | Value::Attributes(_, _)
+        | Value::Properties(_, _)
+        | Value::Verdict(_)
+        | Value::Again
+        | Value::Unknown => Ok(String::new(alloc)),
     }
 }
 

@@ -1,6 +1,7 @@
 -- One character is collected, or lost.
 use Rattle.std.specs.Prelude.{encode_utf8, encode_utf8_all}
-use Rattle.std.proofs.Common.{◌≡◌, ◌∙◌, ◌≤◌, ◌<◌, ◌+◌, ◌-◌, ◌||◌, ◌⊎◌, inl, inr, nat_le, ℕ, Bool, true, false, List, [], ◌∷◌, ◌++◌, Option, Some, length, sym, refl, ap, subst, append-nil, arith}
+use Rattle.std.proofs.Common.{◌≡◌, ◌∙◌, ◌≤◌, ◌<◌, ◌+◌, ◌-◌, ◌||◌, ◌⊎◌, inl, inr, nat_le, ℕ, Bool, true, false, List, []}
+use Rattle.std.proofs.Common.{◌∷◌, ◌++◌, Option, Some, length, sym, refl, ap, subst, append-nil, arith}
 use Rattle.std.proofs.lemmas.Bool.{cases_lt, le-leb, lt-leb}
 use Rattle.std.proofs.lemmas.List.{length-append}
 use Rattle.std.proofs.lemmas.Str.{len_utf8_bounds, length-encode}
@@ -40,7 +41,8 @@ sent_nothing a b waits none works same = record {
 }
 
 -- a character was taken whole
-sent_character : (a b : Sender) (c : ℕ) → a.waiting ≡ [] → b.waiting ≡ [] → a.failed ≡ false → Appends a.taken b.taken (encode_utf8 c) → Sends a b (c ∷ [])
+sent_character : (a b : Sender) (c : ℕ) → a.waiting ≡ [] → b.waiting ≡ [] → a.failed ≡ false
+    → Appends a.taken b.taken (encode_utf8 c) → Sends a b (c ∷ [])
 unfolding Sends
 sent_character a b c waits none works takes = record {
   part = encode_utf8 c;
@@ -52,7 +54,8 @@ sent_character a b c waits none works takes = record {
 }
 
 -- a first part of it was taken
-sent_part : (a b : Sender) (c : ℕ) → a.waiting ≡ [] → a.failed ≡ false → b.failed ≡ true → TookPart a.taken b.taken (encode_utf8 c) → Sends a b (c ∷ [])
+sent_part : (a b : Sender) (c : ℕ) → a.waiting ≡ [] → a.failed ≡ false → b.failed ≡ true
+    → TookPart a.taken b.taken (encode_utf8 c) → Sends a b (c ∷ [])
 unfolding Sends
 sent_part a b c waits works lost took = record {
   part = took.part;
@@ -67,10 +70,12 @@ sent_part a b c waits works lost took = record {
 
 -- a part of a character is at most four bytes
 part_is_short : (c : ℕ) (part rest : List ℕ) → encode_utf8 c ≡ part ++ rest → length part ≤ 4
-part_is_short c part rest e = omega (arith, ap length e ∙ length-append part rest, length-encode c, (len_utf8_bounds c).1)
+part_is_short c part rest e =
+    omega (arith, ap length e ∙ length-append part rest, length-encode c, (len_utf8_bounds c).1)
 
 -- nothing is collected once text is lost
-pub collects_none : (a b : Collected) (s t : List ℕ) → is_lost b ≡ true → b.screen.bytes ≡ a.screen.bytes → b.script.bytes ≡ a.script.bytes → b.room ≡ a.room
+pub collects_none : (a b : Collected) (s t : List ℕ) → is_lost b ≡ true → b.screen.bytes ≡ a.screen.bytes
+    → b.script.bytes ≡ a.script.bytes → b.room ≡ a.room
     → (b.too_much ≡ true → (a.too_much ≡ true) ⊎ (a.room + most_past_room ≤ waiting_of b)) → Collects a b s t
 collects_none a b s t lost screen script room why =
     let same : waiting_of b ≡ waiting_of a = rw (screen, script) refl in
@@ -87,10 +92,12 @@ collects_none a b s t lost screen script room why =
     }
 
 -- a character for the screen
-pub collects_screen : (a b : Collected) (c : ℕ) → is_lost a ≡ false → b.room ≡ a.room → b.script.bytes ≡ a.script.bytes → b.too_much ≡ a.too_much → waiting_of a < a.room + most_past_room
+pub collects_screen : (a b : Collected) (c : ℕ) → is_lost a ≡ false → b.room ≡ a.room
+    → b.script.bytes ≡ a.script.bytes → b.too_much ≡ a.too_much → waiting_of a < a.room + most_past_room
     → b.screen.bytes ≡ a.screen.bytes ++ encode_utf8 c → Collects a b (c ∷ []) []
 collects_screen a b c works room script much few took =
-    let more : length b.screen.bytes ≡ length a.screen.bytes + length (encode_utf8 c) = ap length took ∙ length-append a.screen.bytes (encode_utf8 c) in
+    let more : length b.screen.bytes ≡ length a.screen.bytes + length (encode_utf8 c) = ap length took
+    ∙ length-append a.screen.bytes (encode_utf8 c) in
     let same : length b.script.bytes ≡ length a.script.bytes = ap length script in
     let short = part_is_short c (encode_utf8 c) [] (sym (append-nil (encode_utf8 c))) in
     record {
@@ -106,10 +113,12 @@ collects_screen a b c works room script much few took =
     }
 
 -- a first part of it, since there is no memory for more
-pub collects_screen_part : (a b : Collected) (c : ℕ) → is_lost a ≡ false → is_lost b ≡ true → b.room ≡ a.room → b.script.bytes ≡ a.script.bytes → b.too_much ≡ a.too_much → waiting_of a < a.room + most_past_room
+pub collects_screen_part : (a b : Collected) (c : ℕ) → is_lost a ≡ false → is_lost b ≡ true → b.room ≡ a.room
+    → b.script.bytes ≡ a.script.bytes → b.too_much ≡ a.too_much → waiting_of a < a.room + most_past_room
     → TookPart (Some a.screen.bytes) (Some b.screen.bytes) (encode_utf8 c) → Collects a b (c ∷ []) []
 collects_screen_part a b c works lost room script much few took =
-    let more : length b.screen.bytes ≡ length a.screen.bytes + length took.part = ap length took.takes ∙ length-append a.screen.bytes took.part in
+    let more : length b.screen.bytes ≡ length a.screen.bytes + length took.part = ap length took.takes
+    ∙ length-append a.screen.bytes took.part in
     let same : length b.script.bytes ≡ length a.script.bytes = ap length script in
     let short = part_is_short c took.part took.rest took.whole in
     record {
@@ -125,10 +134,12 @@ collects_screen_part a b c works lost room script much few took =
     }
 
 -- a character for the transcript
-pub collects_script : (a b : Collected) (c : ℕ) → is_lost a ≡ false → b.room ≡ a.room → b.screen.bytes ≡ a.screen.bytes → b.too_much ≡ a.too_much → waiting_of a < a.room + most_past_room
+pub collects_script : (a b : Collected) (c : ℕ) → is_lost a ≡ false → b.room ≡ a.room
+    → b.screen.bytes ≡ a.screen.bytes → b.too_much ≡ a.too_much → waiting_of a < a.room + most_past_room
     → b.script.bytes ≡ a.script.bytes ++ encode_utf8 c → Collects a b [] (c ∷ [])
 collects_script a b c works room screen much few took =
-    let more : length b.script.bytes ≡ length a.script.bytes + length (encode_utf8 c) = ap length took ∙ length-append a.script.bytes (encode_utf8 c) in
+    let more : length b.script.bytes ≡ length a.script.bytes + length (encode_utf8 c) = ap length took
+    ∙ length-append a.script.bytes (encode_utf8 c) in
     let same : length b.screen.bytes ≡ length a.screen.bytes = ap length screen in
     let short = part_is_short c (encode_utf8 c) [] (sym (append-nil (encode_utf8 c))) in
     record {
@@ -143,10 +154,12 @@ collects_script a b c works room screen much few took =
       why = λ e. inl (sym much ∙ e);
     }
 
-pub collects_script_part : (a b : Collected) (c : ℕ) → is_lost a ≡ false → is_lost b ≡ true → b.room ≡ a.room → b.screen.bytes ≡ a.screen.bytes → b.too_much ≡ a.too_much → waiting_of a < a.room + most_past_room
+pub collects_script_part : (a b : Collected) (c : ℕ) → is_lost a ≡ false → is_lost b ≡ true → b.room ≡ a.room
+    → b.screen.bytes ≡ a.screen.bytes → b.too_much ≡ a.too_much → waiting_of a < a.room + most_past_room
     → TookPart (Some a.script.bytes) (Some b.script.bytes) (encode_utf8 c) → Collects a b [] (c ∷ [])
 collects_script_part a b c works lost room screen much few took =
-    let more : length b.script.bytes ≡ length a.script.bytes + length took.part = ap length took.takes ∙ length-append a.script.bytes took.part in
+    let more : length b.script.bytes ≡ length a.script.bytes + length took.part = ap length took.takes
+    ∙ length-append a.script.bytes took.part in
     let same : length b.screen.bytes ≡ length a.screen.bytes = ap length screen in
     let short = part_is_short c took.part took.rest took.whole in
     record {

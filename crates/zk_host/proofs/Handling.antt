@@ -31,8 +31,11 @@ module _ {M : Type 1} {𝓤 : Ura M} {𝓛 : Logic 𝓤} {K : Type 0} {Γ : List
       k (ev ∙ (λ i. vstruct (of_list (ep i ++ (eb i ++ []))) ∷ []))))))
 
   pub zkit_in : K → (p : Ptr) (is_open : Bool) (x : Option Play)
-      → Step K 𝓛 (‵ (Zkit.own_val (record { at = p; is_open = is_open; play = x }) (word p is_open ∷ [])) ∷ Γ) G (‵ (holds token play.the_row is_open p x) ∷ Γ) G
+      → Step K 𝓛 (‵ (Zkit.own_val (record { at = p; is_open = is_open; play = x }) (word p is_open ∷ [])) ∷ Γ) G
+      (‵ (holds token play.the_row is_open p x) ∷ Γ) G
   zkit_in t p is_open x = step (λ s. let v : Val = word p is_open in
-      nothing t $ feq_i t (List Val) (vbool is_open ∷ []) (vbool is_open ∷ []) refl $ fjoin t $ feq_i t (List Val) (ptr_val p ∷ []) (ptr_val p ∷ []) refl $ fjoin t $
+      nothing t $ feq_i t (List Val) (vbool is_open ∷ []) (vbool is_open ∷ []) refl $ fjoin t $ feq_i t (List Val)
+      (ptr_val p ∷ []) (ptr_val p ∷ []) refl $ fjoin t $
       feq_i t (List Val) (v ∷ []) (v ∷ []) refl $ fjoin t $
-      fpack t (Valss (RawPtr ∷ bool ∷ [])) (within (shape zkit.the_type) (p, (is_open, tt)) (v ∷ [])) (ptr_val p ∷ [], (vbool is_open ∷ [], tt)) $ fjoin t $ s)
+      fpack t (Valss (RawPtr ∷ bool ∷ [])) (within (shape zkit.the_type) (p, (is_open, tt)) (v ∷ []))
+      (ptr_val p ∷ [], (vbool is_open ∷ [], tt)) $ fjoin t $ s)

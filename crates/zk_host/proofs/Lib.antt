@@ -2,7 +2,6 @@ pub mod Looseness
 pub mod Handling
 pub mod Hearing
 pub mod Exporting
-pub mod Bounding
 pub mod Collecting
 pub mod Encoding
 pub mod Naming

@@ -1,5 +1,6 @@
 -- The units of a short name that are collected.
-use Rattle.std.proofs.Common.{◌≡◌, ◌<◌, ◌≤◌, ℕ, List, [], take, None, Bool, true, false, nat_lt, min, refl, arith, if◌then◌else◌}
+use Rattle.std.proofs.Common.{◌≡◌, ◌<◌, ◌≤◌, ℕ, List, [], take, None, Bool, true, false, nat_lt, min, refl, arith}
+use Rattle.std.proofs.Common.{if◌then◌else◌}
 use Rattle.std.proofs.lemmas.Bool.Decides.{nat_tests}
 use Rattle.zk_mem.specs.Map.{MemoryMap}
 use Rattle.zk_text.specs.declared.unit.Unit.{Unit as TextUnit}
@@ -11,19 +12,22 @@ use Rattle.zk_host.specs.Collecting.{Collects, collects_nothing, nothing_collect
 use Rattle.zk_host.specs.Names.{IsNameOf, first_units}
 
 -- those of a text of few words, and of one of many
-pub of_few : (m : MemoryMap) (a w : ℕ) (us : List TextUnit) → w ≡ min (words_walked m a) 65537 → w ≤ 65536 → first_units m a us ≡ take 1000 us
+pub of_few : (m : MemoryMap) (a w : ℕ) (us : List TextUnit) → w ≡ min (words_walked m a) 65537 → w ≤ 65536
+    → first_units m a us ≡ take 1000 us
 of_few m a w us is few = go (nat_lt 65536 (words_walked m a)) refl
   where
     go : (b : Bool) → nat_lt 65536 (words_walked m a) ≡ b → (if b then [] else take 1000 us) ≡ take 1000 us
     go true e = let more : 65536 < words_walked m a = grind (arith, nat_tests) in absurd (omega (arith, is, few, more))
     go false e = refl
 
-pub of_many : (m : MemoryMap) (a w : ℕ) (us : List TextUnit) → w ≡ min (words_walked m a) 65537 → 65536 < w → first_units m a us ≡ []
+pub of_many : (m : MemoryMap) (a w : ℕ) (us : List TextUnit) → w ≡ min (words_walked m a) 65537 → 65536 < w
+    → first_units m a us ≡ []
 of_many m a w us is many = go (nat_lt 65536 (words_walked m a)) refl
   where
     go : (b : Bool) → nat_lt 65536 (words_walked m a) ≡ b → (if b then [] else take 1000 us) ≡ []
     go true e = refl
-    go false e = let fewer : words_walked m a ≤ 65536 = grind (arith, nat_tests) in absurd (omega (arith, is, many, fewer))
+    go false e =
+        let fewer : words_walked m a ≤ 65536 = grind (arith, nat_tests) in absurd (omega (arith, is, many, fewer))
 
 pub nothing_named : (m : MemoryMap) (c : Collected) → Collects c c (shown_all (own_characters m) []) []
 unfolding shown_all

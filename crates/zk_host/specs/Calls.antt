@@ -1,5 +1,6 @@
 -- What the calls of a play answer, and how they leave it.
-use Rattle.std.specs.Prelude.{◌≡◌, ◌≤◌, ◌⊎◌, ◌+◌, ◌-◌, ◌^◌, min, ℕ, Bool, true, false, List, length, Option, Some, None, Result, Ok, Err, if◌then◌else◌}
+use Rattle.std.specs.Prelude.{◌≡◌, ◌≤◌, ◌⊎◌, ◌+◌, ◌-◌, ◌^◌, min, ℕ, Bool, true, false, List, length, Option, Some, None}
+use Rattle.std.specs.Prelude.{Result, Ok, Err, if◌then◌else◌}
 use Rattle.std.specs.Global.{Vec, Box}
 use Rattle.zk_text.specs.Extra.{own_characters}
 use Rattle.zk_step.specs.declared.state.game_state.View.{View}
@@ -44,7 +45,8 @@ awaited p = event_waited p.machine.waiting
 
 -- a play of a machine, with no text
 abbrev pub play_of : Session → Play
-play_of m = record { machine = m; text = nothing_collected; name = nothing_collected; listing = no_text; stopped = None }
+play_of m =
+    record { machine = m; text = nothing_collected; name = nothing_collected; listing = no_text; stopped = None }
 
 -- a play at the start of a story
 abbrev pub begun_play : List ℕ → ℕ → Limits → View → Play
@@ -77,14 +79,16 @@ HasEnded old new answer =
 -- a play has paused after so many steps and parts of texts, or once there is no room or memory for more text
 abbrev pub HasPausedBy : Play → Play → ℕ → Asked → Type 0
 HasPausedBy old new steps why =
-    ((parts : ℕ) × Ran Collects wants_pause is_lost Unnoted old.text new.text (old.machine.state.steps + steps) parts old.machine new.machine (Ok tt))
+    ((parts : ℕ) × Ran Collects wants_pause is_lost Unnoted old.text new.text (old.machine.state.steps + steps)
+    parts old.machine new.machine (Ok tt))
     × (why ≡ pause_of new)
     × (new ≡ record old { machine = new.machine; text = new.text })
 
 -- a play has come to an instruction that keeps a state, for which there is no memory, and stands before it
 abbrev pub HasRunShort : Play → Play → ℕ → Type 0
 HasRunShort old new steps =
-    ((parts : ℕ) × StandsShort Collects is_lost old.text new.text (old.machine.state.steps + steps) parts old.machine new.machine)
+    ((parts : ℕ) × StandsShort Collects is_lost old.text new.text (old.machine.state.steps + steps) parts
+    old.machine new.machine)
     × (new ≡ record old { machine = new.machine; text = new.text })
 
 -- a play has run for so many steps at most, by what the turn tells
@@ -117,7 +121,8 @@ IsTurnedIn false old new steps answer = (short : Bool) × IsTurnedOn short (with
 abbrev pub IsTurnedBy : Option Event → Option Stop → Play → Play → (steps room : ℕ) → Result Asked Stop → Type 0
 IsTurnedBy (Some event) stopped old new steps room answer = (answer ≡ Ok (asked.Answer event)) × (new ≡ old)
 IsTurnedBy None (Some stop) old new steps room answer = (answer ≡ Err stop) × (new ≡ old)
-IsTurnedBy None None old new steps room answer = IsTurnedIn (has_no_room (with_room old room).text) (with_room old room) new steps answer
+IsTurnedBy None None old new steps room answer =
+    IsTurnedIn (has_no_room (with_room old room).text) (with_room old room) new steps answer
 
 abbrev pub IsTurned : Play → Play → (steps room : ℕ) → Result Asked Stop → Type 0
 IsTurned old new steps room answer = IsTurnedBy (awaited old) old.stopped old new steps room answer
@@ -192,7 +197,8 @@ done_or_none false = Err refused.NoState
 -- a host has gone back to the newest state, or there is none; or that is refused
 abbrev pub IsGoneBack : Option Refusal → Play → Play → Result (Unit {0}) Refusal → Type 0
 IsGoneBack None old new result =
-    (done : Bool) × (result ≡ done_or_none done) × IsUndone old.machine new.machine done (undone old.machine.state) × (new ≡ record old { machine = new.machine })
+    (done : Bool) × (result ≡ done_or_none done) × IsUndone old.machine new.machine done
+    (undone old.machine.state) × (new ≡ record old { machine = new.machine })
 IsGoneBack (Some r) old new result = (result ≡ Err r) × (new ≡ old)
 
 -- ---- the status line
@@ -217,7 +223,8 @@ with_none_listed p = record p { listing = no_text }
 
 -- the story's file is listed in at most so many bytes, in place of an earlier listing; or it is not, and there is none
 abbrev pub IsListedBy : Listing → ℕ → Play → Play → Result (Unit {0}) Refusal → Type 0
-IsListedBy l most old new (Ok u) = IsListing l (file_of old) new.listing.bytes × (length new.listing.bytes ≤ most) × (new ≡ record old { listing = new.listing })
+IsListedBy l most old new (Ok u) = IsListing l (file_of old) new.listing.bytes × (length new.listing.bytes ≤ most)
+    × (new ≡ record old { listing = new.listing })
 IsListedBy l most old new (Err r) = IsUnlisted l (file_of old) most r × (new ≡ with_none_listed old)
 
 -- ---- snapshots
@@ -226,13 +233,14 @@ IsListedBy l most old new (Err r) = IsUnlisted l (file_of old) most r × (new �
 abbrev pub longest_snapshot : Play → ℕ → ℕ
 longest_snapshot p most = min (longest_of p.machine.limits p.machine.state.game.memory.static_base most) (2 ^ 64 - 1)
 
--- the snapshot of a play, which has one, with the newest states that fit in so many bytes; or it has none, or there is no
--- memory for it
+-- the snapshot of a play, which has one, with the newest states that fit in so many bytes; or it has none, or there is
+-- no memory for it
 abbrev pub IsSnapshot : Play → ℕ → Result (Vec ℕ) Refusal → Type 0
 IsSnapshot p most (Ok bytes) =
     HasSnapshot p.machine × (bytes.items ≡ snapshot_of most p.machine)
     × (length bytes.items ≤ longest_of p.machine.limits p.machine.state.game.memory.static_base most)
-IsSnapshot p most (Err r) = ((r ≡ refused.NotAwaited) × (HasSnapshot p.machine → ⊥)) ⊎ ((r ≡ refused.Memory) × HasSnapshot p.machine)
+IsSnapshot p most (Err r) =
+    ((r ≡ refused.NotAwaited) × (HasSnapshot p.machine → ⊥)) ⊎ ((r ≡ refused.Memory) × HasSnapshot p.machine)
 
 -- a play goes on from a snapshot of a story: its machine is one that has these bytes as its snapshot
 abbrev pub IsOpenedPlay : List ℕ → List ℕ → Play → Type 0
@@ -249,9 +257,12 @@ IsPlayOpened story bytes most (Err (snapshot_refused.Story e)) = ⊥
 IsPlayOpened story bytes most (Err (snapshot_refused.Snapshot e)) = IsRefused story bytes e
 IsPlayOpened story bytes most (Err snapshot_refused.Limits) = IsBeyond story bytes most
 
--- bytes are a story, and others a snapshot of it within limits; or they are refused, the story first and the limits last
+-- bytes are a story, and others a snapshot of it within limits; or they are refused, the story first and the limits
+-- last
 abbrev pub IsOpenedFrom : List ℕ → List ℕ → Limits → Result (Box Play) SnapshotRefusal → Type 0
-IsOpenedFrom story bytes most (Ok p) = (refusal story ≡ None) × IsOpenedPlay story bytes p.value × AreWithin p.value.machine.limits most
-IsOpenedFrom story bytes most (Err (snapshot_refused.Story e)) = (refusal story ≡ Some e) ⊎ ((e ≡ OutOfMemory) × (refusal story ≡ None))
+IsOpenedFrom story bytes most (Ok p) =
+    (refusal story ≡ None) × IsOpenedPlay story bytes p.value × AreWithin p.value.machine.limits most
+IsOpenedFrom story bytes most (Err (snapshot_refused.Story e)) =
+    (refusal story ≡ Some e) ⊎ ((e ≡ OutOfMemory) × (refusal story ≡ None))
 IsOpenedFrom story bytes most (Err (snapshot_refused.Snapshot e)) = (refusal story ≡ None) × IsRefused story bytes e
 IsOpenedFrom story bytes most (Err snapshot_refused.Limits) = (refusal story ≡ None) × IsBeyond story bytes most

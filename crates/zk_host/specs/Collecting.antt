@@ -31,10 +31,17 @@ most_waiting c = c.room + most_past_room + 3
 
 -- both texts as what two targets took
 abbrev pub targets_of : Collected → Targets
-targets_of c = record { screen = Some c.screen.bytes; to_screen = []; script = Some c.script.bytes; to_script = []; failed = is_lost c; either = is_lost c }
+targets_of c = record {
+  screen = Some c.screen.bytes;
+  to_screen = [];
+  script = Some c.script.bytes;
+  to_script = [];
+  failed = is_lost c;
+  either = is_lost c;
+}
 
--- Text was collected: of both texts a first part, and all while none was lost. It is lost for lack of memory, or where there
--- is too much of it, and so no more than that ever waits.
+-- Text was collected: of both texts a first part, and all while none was lost. It is lost for lack of memory, or where
+-- there is too much of it, and so no more than that ever waits.
 pub record Collects (a b : Collected) (screen script : List ℕ) : Type 0 where
   pub written : Written (targets_of a) (targets_of b) screen script
   pub room : b.room ≡ a.room
@@ -60,12 +67,16 @@ collects_nothing a = record {
   why = λ e. inl e;
 }
 
-why_twice : (a b c : Collected) → b.room ≡ a.room → waiting_of b ≤ waiting_of c → (b.too_much ≡ true → (a.too_much ≡ true) ⊎ (a.room + most_past_room ≤ waiting_of b))
-    → (b.too_much ≡ true) ⊎ (b.room + most_past_room ≤ waiting_of c) → (a.too_much ≡ true) ⊎ (a.room + most_past_room ≤ waiting_of c)
-why_twice a b c room more first (inl e) = elim (first e) [ inl before ↦ inl before | inr much ↦ inr (omega (arith, much, more)) ]
+why_twice : (a b c : Collected) → b.room ≡ a.room → waiting_of b ≤ waiting_of c
+    → (b.too_much ≡ true → (a.too_much ≡ true) ⊎ (a.room + most_past_room ≤ waiting_of b))
+    → (b.too_much ≡ true) ⊎ (b.room + most_past_room ≤ waiting_of c) → (a.too_much ≡ true)
+    ⊎ (a.room + most_past_room ≤ waiting_of c)
+why_twice a b c room more first (inl e) =
+    elim (first e) [ inl before ↦ inl before | inr much ↦ inr (omega (arith, much, more)) ]
 why_twice a b c room more first (inr much) = inr (omega (arith, room, much))
 
-pub collects_twice : (a b c : Collected) (s t u v : List ℕ) → Collects a b s u → Collects b c t v → Collects a c (s ++ t) (u ++ v)
+pub collects_twice : (a b c : Collected) (s t u v : List ℕ) → Collects a b s u → Collects b c t v
+    → Collects a c (s ++ t) (u ++ v)
 collects_twice a b c s t u v h k = record {
   written = written_twice _ _ _ s t u v h.written k.written;
   room = k.room ∙ h.room;

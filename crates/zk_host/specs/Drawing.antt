@@ -1,5 +1,6 @@
 -- What a host draws beside the text (Standard, sections 8.2, 8.6 and 8.7).
-use Rattle.std.specs.Prelude.{◌≡◌, ◌⊎◌, ◌≢◌, ◌+◌, ◌-◌, ℕ, ℤ, pos, Bool, ◌&&◌, List, [], nat_le, nat_lt, Option, Some, None, Result, Ok, Err, if◌then◌else◌, encode_utf8_all}
+use Rattle.std.specs.Prelude.{◌≡◌, ◌⊎◌, ◌≢◌, ◌+◌, ◌-◌, ℕ, ℤ, pos, Bool, ◌&&◌, List, [], nat_le, nat_lt, Option, Some}
+use Rattle.std.specs.Prelude.{None, Result, Ok, Err, if◌then◌else◌, encode_utf8_all}
 use Rattle.std.specs.Int.{cast_signed, w16}
 use Rattle.zk_mem.specs.declared.fault.Fault.{Fault}
 use Rattle.zk_mem.specs.Map.{MemoryMap, byte_at}
@@ -22,7 +23,13 @@ selected_number Lower = 0
 selected_number Upper = 1
 
 abbrev pub window_of : Windows → WindowFigures
-window_of w = record { height = w.height; tallest = tallest_height w; row = w.row; column = w.column; selected = selected_number w.selected }
+window_of w = record {
+  height = w.height;
+  tallest = tallest_height w;
+  row = w.row;
+  column = w.column;
+  selected = selected_number w.selected;
+}
 
 -- rows are numbered from 1 to 255
 abbrev pub row_number : ℕ → Option ℕ
@@ -40,7 +47,11 @@ abbrev pub figure : Bool → ℕ → ℤ
 figure is_time n = if is_time then pos n else cast_signed w16 n
 
 abbrev pub figures_of : StatusLine → StatusFigures
-figures_of s = record { kind = (if s.is_time then 2 else 1); first = figure s.is_time s.first; second = figure s.is_time s.second }
+figures_of s = record {
+  kind = (if s.is_time then 2 else 1);
+  first = figure s.is_time s.first;
+  second = figure s.is_time s.second;
+}
 
 abbrev pub no_figures : StatusFigures
 no_figures = record { kind = 0; first = pos 0; second = pos 0 }

@@ -1,5 +1,6 @@
 -- What the exported functions do to the play that a handle has.
-use Rattle.std.specs.Prelude.{◌≡◌, ◌≤◌, ◌<◌, ℕ, List, length, drop, ◌++◌, ◌==◌, if◌then◌else◌, Option, Some, None, Result, Ok, Err}
+use Rattle.std.specs.Prelude.{◌≡◌, ◌≤◌, ◌<◌, ℕ, List, length, drop, ◌++◌, ◌==◌, if◌then◌else◌, Option, Some, None}
+use Rattle.std.specs.Prelude.{Result, Ok, Err}
 use Rattle.zk_mem.specs.declared.story.OpenError.{OpenError}
 use Rattle.zk_mem.specs.Story.{refusal, refusal_number}
 use Rattle.zk_step.specs.declared.state.game_state.View.{View}
@@ -18,7 +19,8 @@ use Rattle.zk_mem.specs.declared.header.Header.{Header}
 use Rattle.zk_vm.specs.Sessions.{Session}
 use Rattle.zk_host.specs.declared.facts.Facts.{Facts}
 use Rattle.zk_host.specs.declared.listing.Listing.{Listing}
-use Rattle.zk_host.specs.Calls.{awaited, begun_play, read_refused, IsGiven, IsGoneBack, IsListedBy, IsOpenedFrom, IsSnapshot, IsTurned, with_none_listed}
+use Rattle.zk_host.specs.Calls.{awaited, begun_play, read_refused, IsGiven, IsGoneBack, IsListedBy, IsOpenedFrom}
+use Rattle.zk_host.specs.Calls.{IsSnapshot, IsTurned, with_none_listed}
 use Rattle.zk_host.specs.Numbers.{answer_number, snapshot_number, turn_number, refused_number}
 
 -- a handle has a play before and after, of which something holds; or it is closed and stays so, and something else
@@ -47,8 +49,10 @@ pub record AreLimits (l : Limits) : Type 0 where
 
 -- a handle has a play of a story at its start, or is as it was, and a number says why
 pub data IsOpened (old new : Option Play) (story : List ℕ) (seed : ℕ) (limits : Limits) (view : View) : ℕ → Type 0 where
-  Opened : AreLimits limits → refusal story ≡ None → new ≡ Some (begun_play story seed limits view) → IsOpened old new story seed limits view 0
-  NoStory : (e : OpenError) → refusal story ≡ Some e → new ≡ old → IsOpened old new story seed limits view (refusal_number e)
+  Opened : AreLimits limits → refusal story ≡ None → new ≡ Some (begun_play story seed limits view)
+      → IsOpened old new story seed limits view 0
+  NoStory : (e : OpenError) → refusal story ≡ Some e → new ≡ old → IsOpened old new story seed limits view
+      (refusal_number e)
   NoMemory : AreLimits limits → refusal story ≡ None → new ≡ old → IsOpened old new story seed limits view 6
   NoLimits : (AreLimits limits → ⊥) → new ≡ old → IsOpened old new story seed limits view 7
 
@@ -56,7 +60,8 @@ pub data IsOpened (old new : Option Play) (story : List ℕ) (seed : ℕ) (limit
 
 -- a turn and what is told of it
 abbrev pub IsTurn : Play → Play → (steps room : ℕ) → ℕ → Type 0
-IsTurn old new steps room n = (answer : Result Asked Stop) × (n ≡ turn_number answer) × IsTurned old new steps room answer
+IsTurn old new steps room n =
+    (answer : Result Asked Stop) × (n ≡ turn_number answer) × IsTurned old new steps room answer
 
 -- an answer and what is told of it, by why it is refused, if it is
 abbrev pub IsAnswered : Option Refusal → Session → Play → Play → Answer → ℕ → Type 0
@@ -65,33 +70,41 @@ IsAnswered (Some r) before old new a n = (n ≡ refused_number r) × (new ≡ ol
 
 -- a host has gone back, and what is told of it
 abbrev pub IsUndo : Play → Play → ℕ → Type 0
-IsUndo old new n = (result : Result (Unit {0}) Refusal) × (n ≡ answer_number result) × IsGoneBack (read_refused (awaited old)) old new result
+IsUndo old new n = (result : Result (Unit {0}) Refusal) × (n ≡ answer_number result)
+    × IsGoneBack (read_refused (awaited old)) old new result
 
 -- ---- saved games
 
 -- a file was put at the front of a buffer, and its length told; or there is no room for it, or no memory, and then the
 -- buffer is as it was
 pub data IsPut (file before after : List ℕ) (length_before length_after : ℕ) : ℕ → Type 0 where
-  Whole : length_after ≡ length file → after ≡ file ++ drop (length file) before → IsPut file before after length_before length_after 0
-  NoRoom : length_after ≡ length file → length before < length file → after ≡ before → IsPut file before after length_before length_after 3
+  Whole : length_after ≡ length file → after ≡ file ++ drop (length file) before
+      → IsPut file before after length_before length_after 0
+  NoRoom : length_after ≡ length file → length before < length file → after ≡ before
+      → IsPut file before after length_before length_after 3
   NoMemory : length_after ≡ length_before → after ≡ before → IsPut file before after length_before length_after 4
 
 -- the saved game of a play that waits for it to be kept, by why it is refused, if it is; the play stays
 abbrev pub IsImaged : Option Refusal → Play → Play → List ℕ → List ℕ → ℕ → ℕ → ℕ → Type 0
-IsImaged None old new before after length_before length_after n = (new ≡ old) × IsPut (image_of old.machine) before after length_before length_after n
-IsImaged (Some r) old new before after length_before length_after n = (new ≡ old) × (n ≡ refused_number r) × (after ≡ before) × (length_after ≡ length_before)
+IsImaged None old new before after length_before length_after n =
+    (new ≡ old) × IsPut (image_of old.machine) before after length_before length_after n
+IsImaged (Some r) old new before after length_before length_after n =
+    (new ≡ old) × (n ≡ refused_number r) × (after ≡ before) × (length_after ≡ length_before)
 
 -- ---- snapshots
 
 -- bytes were put at the front of a buffer, and their length told; or they are refused, and the buffer is as it was
 abbrev pub IsPutUnless : Result (Vec ℕ) Refusal → List ℕ → List ℕ → ℕ → ℕ → ℕ → Type 0
-IsPutUnless (Ok bytes) before after length_before length_after n = IsPut bytes.items before after length_before length_after n
-IsPutUnless (Err r) before after length_before length_after n = (n ≡ refused_number r) × (after ≡ before) × (length_after ≡ length_before)
+IsPutUnless (Ok bytes) before after length_before length_after n =
+    IsPut bytes.items before after length_before length_after n
+IsPutUnless (Err r) before after length_before length_after n =
+    (n ≡ refused_number r) × (after ≡ before) × (length_after ≡ length_before)
 
 -- the snapshot of a play was put there, or it is refused; the play stays
 abbrev pub IsSnapshotPut : Play → Play → (most : ℕ) → List ℕ → List ℕ → ℕ → ℕ → ℕ → Type 0
 IsSnapshotPut old new most before after length_before length_after n =
-    (result : Result (Vec ℕ) Refusal) × IsSnapshot old most result × IsPutUnless result before after length_before length_after n × (new ≡ old)
+    (result : Result (Vec ℕ) Refusal) × IsSnapshot old most result × IsPutUnless result before after length_before
+    length_after n × (new ≡ old)
 
 -- a handle has a play that goes on from a snapshot, or is as it was, and a number says why
 abbrev pub IsHeld : Option Play → Option Play → Result (Box Play) SnapshotRefusal → ℕ → Type 0
@@ -100,7 +113,8 @@ IsHeld old new (Err r) n = (n ≡ snapshot_number r) × (new ≡ old)
 
 -- the same, where the limits that the snapshot may have lie in their ranges; or they do not
 pub data IsOpenedAgain (old new : Option Play) (story bytes : List ℕ) (most : Limits) : ℕ → Type 0 where
-  InRange : (n : ℕ) (result : Result (Box Play) SnapshotRefusal) → AreLimits most → IsOpenedFrom story bytes most result → IsHeld old new result n → IsOpenedAgain old new story bytes most n
+  InRange : (n : ℕ) (result : Result (Box Play) SnapshotRefusal) → AreLimits most
+      → IsOpenedFrom story bytes most result → IsHeld old new result n → IsOpenedAgain old new story bytes most n
   NoLimits : (AreLimits most → ⊥) → new ≡ old → IsOpenedAgain old new story bytes most 7
 
 -- ---- about a story
@@ -111,4 +125,5 @@ facts_of h = record { version = h.version; release = h.release; checksum = h.che
 -- a story is listed in at most so many bytes, by which listing is asked for, if there is one
 abbrev pub IsListed : Option Listing → ℕ → Play → Play → ℕ → Type 0
 IsListed None most old new n = (n ≡ 1) × (new ≡ with_none_listed old)
-IsListed (Some listing) most old new n = (result : Result (Unit {0}) Refusal) × (n ≡ answer_number result) × IsListedBy listing most old new result
+IsListed (Some listing) most old new n =
+    (result : Result (Unit {0}) Refusal) × (n ≡ answer_number result) × IsListedBy listing most old new result

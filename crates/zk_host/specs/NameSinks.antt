@@ -14,25 +14,32 @@ pub name_nothing : (e : ExtraTable) (a : Collected) → Collects a a (shown_all 
 unfolding shown_all
 name_nothing e a = collects_nothing a
 
-pub name_twice : (e f : ExtraTable) (a b c : Collected) (s t : List TextUnit) → f ≡ e → Collects a b (shown_all e s) [] → Collects b c (shown_all f t) [] → Collects a c (shown_all e (s ++ t)) []
+pub name_twice : (e f : ExtraTable) (a b c : Collected) (s t : List TextUnit) → f ≡ e
+    → Collects a b (shown_all e s) [] → Collects b c (shown_all f t) [] → Collects a c (shown_all e (s ++ t)) []
 name_twice e f a b c s t same h k =
-    subst (λ (cs : List ℕ). Collects a c cs []) (sym (shown_all-append e s t)) (collects_twice a b c _ _ [] [] h (subst (λ (x : ExtraTable). Collects b c (shown_all x t) []) same k))
+    subst (λ (cs : List ℕ). Collects a c cs []) (sym (shown_all-append e s t))
+    (collects_twice a b c _ _ [] [] h (subst (λ (x : ExtraTable). Collects b c (shown_all x t) []) same k))
 
 pub left_twice : (x y z : ℕ) (s t : List TextUnit) → x ≡ length s + y → y ≡ length t + z → x ≡ length (s ++ t) + z
 left_twice x y z s t h k = omega (arith, h, k, length-append s t)
 
-pub name_late : (e f : ExtraTable) (a b c : Collected) (s t : List TextUnit) (x y : ℕ) → f ≡ e → x ≡ length s + y → Collects a b (shown_all e s) [] → Collects b c (shown_all f (take y t)) [] → Collects a c (shown_all e (take x (s ++ t))) []
+pub name_late : (e f : ExtraTable) (a b c : Collected) (s t : List TextUnit) (x y : ℕ) → f ≡ e → x ≡ length s + y
+    → Collects a b (shown_all e s) [] → Collects b c (shown_all f (take y t)) []
+    → Collects a c (shown_all e (take x (s ++ t))) []
 name_late e f a b c s t x y same is h k =
-    subst (λ (us : List TextUnit). Collects a c (shown_all e us) []) (sym (ap (λ (n : ℕ). take n (s ++ t)) is ∙ take-append-add s t y)) (name_twice e f a b c s (take y t) same h k)
+    subst (λ (us : List TextUnit). Collects a c (shown_all e us) [])
+    (sym (ap (λ (n : ℕ). take n (s ++ t)) is ∙ take-append-add s t y)) (name_twice e f a b c s (take y t) same h k)
 
 pub whole_name : (us : List TextUnit) (x y : ℕ) → x ≡ length us + y → take x us ≡ us
 whole_name us x y is = take_all x us (omega (arith, is))
 
-pub name_unit : (e : ExtraTable) (a b : Collected) (u : TextUnit) → Collects a b (shown e u) [] → Collects a b (shown_all e (u ∷ [])) []
+pub name_unit : (e : ExtraTable) (a b : Collected) (u : TextUnit) → Collects a b (shown e u) []
+    → Collects a b (shown_all e (u ∷ [])) []
 name_unit e a b u h = subst (λ (cs : List ℕ). Collects a b cs []) (sym (shown_all-one e u)) h
 
 -- none are left
-pub name_cut : (e : ExtraTable) (a : Collected) (x : ℕ) (us : List TextUnit) → x ≡ 0 → Collects a a (shown_all e (take x us)) []
+pub name_cut : (e : ExtraTable) (a : Collected) (x : ℕ) (us : List TextUnit) → x ≡ 0
+    → Collects a a (shown_all e (take x us)) []
 name_cut e a x us none = subst (λ (n : ℕ). Collects a a (shown_all e (take n us)) []) (sym none) (name_nothing e a)
 
 pub left_nothing : (x : ℕ) → x ≡ 0 + x

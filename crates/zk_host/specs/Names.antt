@@ -22,7 +22,8 @@ first_named m (Some a) units = first_units m a units
 
 -- the first units of an object's short name were collected
 abbrev pub IsNameOf : MemoryMap → Option ℕ → Collected → Type 0
-IsNameOf m name c = (units : List TextUnit) → named m name ≡ Ok units → Collects nothing_collected c (shown_all (own_characters m) (first_named m name units)) []
+IsNameOf m name c = (units : List TextUnit) → named m name ≡ Ok units
+    → Collects nothing_collected c (shown_all (own_characters m) (first_named m name units)) []
 
 -- the name in a status line can be read
 abbrev pub IsNamed : MemoryMap → Option StatusLine → Type 0

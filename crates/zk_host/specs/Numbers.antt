@@ -2,7 +2,8 @@
 use Rattle.std.specs.Prelude.{ℕ, Bool, Option, Some, None, Result, Ok, Err, if◌then◌else◌}
 use Rattle.zk_mem.specs.Faults.{fault_number}
 use Rattle.zk_mem.specs.Story.{refusal_number}
-use Rattle.zk_snapshot.specs.declared.opening.SnapshotError.TheVariants.{NotASnapshot, OtherVersion, OtherStory, Damaged, OutOfMemory}
+use Rattle.zk_snapshot.specs.declared.opening.SnapshotError.TheVariants.{NotASnapshot, OtherVersion, OtherStory}
+use Rattle.zk_snapshot.specs.declared.opening.SnapshotError.TheVariants.{Damaged, OutOfMemory}
 use Rattle.zk_state.specs.Limits.{limit_number}
 use Rattle.zk_step.specs.declared.state.ending.Event.{Event}
 use Rattle.zk_step.specs.declared.state.ending.Event.TheVariants.{Line, Char, Save, Restore}

@@ -9,8 +9,8 @@ use crate::text::Text;
 use std::alloc::Global;
 use zk_term::target::{Failed, Target};
 
-/// The texts of a story that are looked at for a listing have so many words at most, those of an abbreviation with each use.
-/// The longest story has 262,144 words.
+/// The texts of a story that are looked at for a listing have so many words at most, those of an abbreviation with each
+/// use. The longest story has 262,144 words.
 const MOST_WORDS: u32 = 1_048_576;
 
 /// Text with a bound. It takes one byte past the bound, so that it is known to have more, and refuses all after that.

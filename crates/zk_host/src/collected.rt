@@ -1,7 +1,8 @@
 // Text that a play has shown and nobody has taken yet.
 
 ghost use Rattle.std.specs.Prelude.{◌≡◌, ◌+◌, false, if◌then◌else◌, nat_le, true};
-ghost use Rattle.zk_host.specs.Collecting.{has_no_room, is_lost, most_past_room, nothing_collected, waiting_of, wants_pause};
+ghost use Rattle.zk_host.specs.Collecting.{has_no_room, is_lost, most_past_room, nothing_collected, waiting_of};
+ghost use Rattle.zk_host.specs.Collecting.{wants_pause};
 
 use crate::text::Text;
 use std::alloc::Global;
@@ -11,9 +12,9 @@ use zk_term::target::{Failed, write_char};
 /// One instruction shows at most so many bytes past the room.
 const MOST_PAST_ROOM: u64 = 1_048_576;
 
-/// UTF-8 of the screen and of the transcript that waits to be taken, and in how much room. There is memory for what may be shown
-/// at once before it is shown, or `short` says that there is none. What is shown is lost where there is no memory for it, or
-/// much more of it than there is room for.
+/// UTF-8 of the screen and of the transcript that waits to be taken, and in how much room. There is memory for what may
+/// be shown at once before it is shown, or `short` says that there is none. What is shown is lost where there is no
+/// memory for it, or much more of it than there is room for.
 #[derive(Drop)]
 pub struct Collected {
     pub screen: Text,

@@ -1,7 +1,8 @@
 // What a host draws beside the text: the upper window, and the status line of version 3.
 
 ghost use Rattle.std.specs.Prelude.{◌≡◌, ◌≤◌, encode_utf8_all, length};
-ghost use Rattle.zk_host.specs.Drawing.{HasStatus, figures_of, figures_or_none, line_room, line_room_early, line_room_later, room_or_none, row_number, window_of};
+ghost use Rattle.zk_host.specs.Drawing.{HasStatus, figures_of, figures_or_none, line_room, line_room_early};
+ghost use Rattle.zk_host.specs.Drawing.{line_room_later, room_or_none, row_number, window_of};
 
 use arrayvec::ArrayVec;
 use zk_mem::fault::Fault;

@@ -1,7 +1,8 @@
 // The numbers by which C is told.
 
 ghost use Rattle.std.specs.Prelude.{◌≡◌};
-ghost use Rattle.zk_host.specs.Numbers.{address_number, event_number, reason_number, refused_number, status_number, answer_number, snapshot_number, stop_number, turn_number};
+ghost use Rattle.zk_host.specs.Numbers.{address_number, event_number, reason_number, refused_number, status_number};
+ghost use Rattle.zk_host.specs.Numbers.{answer_number, snapshot_number, stop_number, turn_number};
 
 use crate::play::{Asked, Refusal, SnapshotRefusal};
 use zk_snapshot::opening::SnapshotError;

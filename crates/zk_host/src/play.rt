@@ -122,7 +122,11 @@ fn list_file(alloc: Global, memory: &Memory, listing: Listing, most: usize) -> R
 }
 
 impl Play {
-    ghost use Rattle.zk_host.specs.Calls.{begun_play, play_of, IsOpenedFrom, IsPlayOpened, IsSnapshot, longest_snapshot, awaited, pause_of, HasRun, IsGivenUnless, IsGoneBack, IsImage, IsListedBy, IsStatus, IsTurned, line_refused, character_refused, read_refused, save_refused, restore_refused, character_read, with_none_listed};
+    ghost use Rattle.zk_host.specs.Calls.{begun_play, play_of, IsOpenedFrom, IsPlayOpened, IsSnapshot};
+    ghost use Rattle.zk_host.specs.Calls.{longest_snapshot, awaited, pause_of, HasRun, IsGivenUnless, IsGoneBack};
+    ghost use Rattle.zk_host.specs.Calls.{IsImage, IsListedBy, IsStatus, IsTurned, line_refused, character_refused};
+    ghost use Rattle.zk_host.specs.Calls.{read_refused, save_refused, restore_refused, character_read};
+    ghost use Rattle.zk_host.specs.Calls.{with_none_listed};
     ghost use Rattle.zk_host.specs.Collecting.{wants_pause};
     ghost use Rattle.std.specs.Prelude.{Option, Some, None, false, option_copied, ◌∷◌, []};
 
@@ -203,8 +207,8 @@ impl Play {
         }
     }
 
-    /// A play that goes on from a snapshot of the story that bytes are, where its limits lie within others. The story is
-    /// looked at first, then the snapshot, and then its limits.
+    /// A play that goes on from a snapshot of the story that bytes are, where its limits lie within others. The story
+    /// is looked at first, then the snapshot, and then its limits.
     pub fn open_snapshot(
         alloc: Global,
         story: &[u8],
@@ -222,9 +226,10 @@ impl Play {
         }
     }
 
-    /// Runs the story up to its next event or its stop, for so many instructions at most and while there is room and memory for
-    /// its text, which it collects, and memory for the states that it keeps. Where an event waits for its answer already, or the
-    /// story has stopped, that is told again; where there is no room, or no memory, nothing is run.
+    /// Runs the story up to its next event or its stop, for so many instructions at most and while there is room and
+    /// memory for its text, which it collects, and memory for the states that it keeps. Where an event waits for its
+    /// answer already, or the story has stopped, that is told again; where there is no room, or no memory, nothing is
+    /// run.
     pub fn turn(&mut self, steps: u32, room: u32) -> Result<Asked, Stop>
         ensures { IsTurned self.old self.new steps room result }
     {
@@ -302,7 +307,8 @@ impl Play {
     /// Answers a read by a line, its bytes without a new line.
     pub fn line(&mut self, line: &[u8]) -> Result<(), Refusal>
         ensures { IsGivenUnless (line_refused (awaited self.old) line.now)
-            (with_grid_forgotten self.old.machine) self.old self.new result (Typed (codes_read self.old.machine line.now)) }
+            (with_grid_forgotten self.old.machine) self.old self.new result
+            (Typed (codes_read self.old.machine line.now)) }
     {
         let Some(Event::Line(_, _)) = self.machine.machine().waiting() else {
             return Err(Refusal::NotAwaited);
@@ -319,7 +325,8 @@ impl Play {
     /// Answers a read by a character.
     pub fn character(&mut self, character: u32) -> Result<(), Refusal>
         ensures { IsGivenUnless (character_refused (awaited self.old))
-            (with_grid_forgotten self.old.machine) self.old self.new result (Typed (character_read self.old.machine character ∷ [])) }
+            (with_grid_forgotten self.old.machine) self.old self.new result
+            (Typed (character_read self.old.machine character ∷ [])) }
     {
         let Some(Event::Char) = self.machine.machine().waiting() else {
             return Err(Refusal::NotAwaited);
@@ -343,7 +350,8 @@ impl Play {
         }
     }
 
-    /// The snapshot of a play that waits for a line or a character, with as many of its newest states as fit in so many bytes.
+    /// The snapshot of a play that waits for a line or a character, with as many of its newest states as fit in so many
+    /// bytes.
     pub fn snapshot(&self, alloc: Global, most: usize) -> Result<Vec<u8>, Refusal>
         ensures { IsSnapshot self.now most result }
     {
@@ -471,7 +479,8 @@ impl Play {
         self.listing = Text::new(alloc);
     }
 
-    /// Lists the story's file in at most so many bytes, in place of an earlier listing. Where it is refused there is none.
+    /// Lists the story's file in at most so many bytes, in place of an earlier listing. Where it is refused there is
+    /// none.
     pub fn list(&mut self, alloc: Global, listing: Listing, most: usize) -> Result<(), Refusal>
         ensures { IsListedBy listing most self.old self.new result }
     {

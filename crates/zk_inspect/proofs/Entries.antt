@@ -1,5 +1,6 @@
 -- The entries of objects, one after another, and how many are listed.
-use Rattle.std.proofs.Common.{◌≡◌, ◌≢◌, ◌∙◌, ℕ, zero, suc, ◌+◌, ◌*◌, ◌-◌, ◌<◌, ◌≤◌, inl, inr, Bool, true, false, Result, Ok, Err, refl, sym, ap, subst, arith, nat_lt, if◌then◌else◌}
+use Rattle.std.proofs.Common.{◌≡◌, ◌≢◌, ◌∙◌, ℕ, zero, suc, ◌+◌, ◌*◌, ◌-◌, ◌<◌, ◌≤◌, inl, inr, Bool, true, false, Result}
+use Rattle.std.proofs.Common.{Ok, Err, refl, sym, ap, subst, arith, nat_lt, if◌then◌else◌}
 use Rattle.std.specs.Prelude.{◌↔◌, IsOk}
 use Rattle.std.proofs.lemmas.Bool.{cases_lt, cases_eq}
 use Rattle.std.proofs.Math.Nat.{mul-le-mul_left}
@@ -20,7 +21,9 @@ pub record IsEntry (l : Layout) (table end o e : ℕ) : Type 0 where
   pub inside : table + 2 * l.default_words + l.entry_bytes * o ≤ end
   pub stands : e ≡ table + 2 * l.default_words + l.entry_bytes * (o - 1)
 
-entry_by : (l : Layout) (table end o e : ℕ) (b : Bool) → is_entry_in l table end o ≡ b → (if b then Ok (table + 2 * l.default_words + l.entry_bytes * (o - 1)) else Err BadObject) ≡ Ok e → IsEntry l table end o e
+entry_by : (l : Layout) (table end o e : ℕ) (b : Bool) → is_entry_in l table end o ≡ b
+    → (if b then Ok (table + 2 * l.default_words + l.entry_bytes * (o - 1)) else Err BadObject) ≡ Ok e
+    → IsEntry l table end o e
 unfolding is_entry_in
 entry_by l table end o e false d h = absurd cc
 entry_by l table end o e true d h = record {
@@ -30,16 +33,19 @@ entry_by l table end o e true d h = record {
   stands = cc;
 }
 
-pub probe : (m : MemoryMap) (o e : ℕ) → entry_of m o ≡ Ok e → IsEntry (layout_of m.version) (default_words_start m) (readable_end m) o e
+pub probe : (m : MemoryMap) (o e : ℕ) → entry_of m o ≡ Ok e → IsEntry (layout_of m.version)
+    (default_words_start m) (readable_end m) o e
 unfolding entry_of is_entry
 probe m o e h = entry_by (layout_of m.version) (default_words_start m) (readable_end m) o e (is_entry m o) refl h
 
-again_by : (l : Layout) (table end o e : ℕ) (b : Bool) → is_entry_in l table end o ≡ b → IsEntry l table end o e → (if b then Ok (table + 2 * l.default_words + l.entry_bytes * (o - 1)) else Err BadObject) ≡ Ok e
+again_by : (l : Layout) (table end o e : ℕ) (b : Bool) → is_entry_in l table end o ≡ b → IsEntry l table end o e
+    → (if b then Ok (table + 2 * l.default_words + l.entry_bytes * (o - 1)) else Err BadObject) ≡ Ok e
 unfolding is_entry_in
 again_by l table end o e true d h = ap (λ (x : ℕ). Ok x) (sym h.stands)
 again_by l table end o e false d h = let a = h.some in let b = h.few in let c = h.inside in absurd (grind arith)
 
-pub again : (m : MemoryMap) (o e : ℕ) → IsEntry (layout_of m.version) (default_words_start m) (readable_end m) o e → entry_of m o ≡ Ok e
+pub again : (m : MemoryMap) (o e : ℕ) → IsEntry (layout_of m.version) (default_words_start m) (readable_end m) o e
+    → entry_of m o ≡ Ok e
 unfolding entry_of is_entry
 again m o e h = again_by (layout_of m.version) (default_words_start m) (readable_end m) o e (is_entry m o) refl h
 
@@ -52,24 +58,37 @@ pub sizes : (v : ℕ) → (9 ≤ (layout_of v).entry_bytes) × ((layout_of v).mo
 sizes v = sizes_by v (nat_lt v 4) refl
 
 -- the entry of an object before another
-lower_by : (l : Layout) (table end q p e : ℕ) → IsEntry l table end (q + 1) e → p ≤ q → IsEntry l table end (p + 1) (table + 2 * l.default_words + l.entry_bytes * p)
+lower_by : (l : Layout) (table end q p e : ℕ) → IsEntry l table end (q + 1) e → p ≤ q
+    → IsEntry l table end (p + 1) (table + 2 * l.default_words + l.entry_bytes * p)
 lower_by l table end q p e h le =
     let more = mul-le-mul_left l.entry_bytes le in
     let c = h.inside in let f = h.few in
-    record { some = omega arith; few = omega arith; inside = omega arith; stands = ap (λ (n : ℕ). table + 2 * l.default_words + l.entry_bytes * n) (omega arith) }
+    record {
+      some = omega arith;
+      few = omega arith;
+      inside = omega arith;
+      stands = ap (λ (n : ℕ). table + 2 * l.default_words + l.entry_bytes * n) (omega arith);
+    }
 
-pub lower_entry : (m : MemoryMap) (o p e : ℕ) → entry_of m o ≡ Ok e → 0 < p → p ≤ o → (f : ℕ) × (entry_of m p ≡ Ok f) × (f ≤ e)
+pub lower_entry : (m : MemoryMap) (o p e : ℕ) → entry_of m o ≡ Ok e → 0 < p → p ≤ o
+    → (f : ℕ) × (entry_of m p ≡ Ok f) × (f ≤ e)
 lower_entry m zero p e h some le = absurd (omega arith)
 lower_entry m (suc q) zero e h some le = absurd (omega arith)
 lower_entry m (suc q) (suc r) e h some le =
     let l = layout_of m.version in
     let t = default_words_start m in
-    let at = lower_by l t (readable_end m) q r e (subst (λ (n : ℕ). IsEntry l t (readable_end m) n e) (omega arith) (probe m (suc q) e h)) (omega arith) in
+    let at = lower_by l t (readable_end m) q r e (subst (λ (n : ℕ). IsEntry l t (readable_end m) n e)
+    (omega arith) (probe m (suc q) e h)) (omega arith) in
     let stands = (probe m (suc q) e h).stands in
     let below : r ≤ q = omega arith in
     let more = mul-le-mul_left l.entry_bytes below in
-    let same : l.entry_bytes * (suc q - 1) ≡ l.entry_bytes * q = ap (λ (n : ℕ). l.entry_bytes * n) (omega arith) in
-    (t + 2 * l.default_words + l.entry_bytes * r, again m (suc r) _ (subst (λ (n : ℕ). IsEntry l t (readable_end m) n (t + 2 * l.default_words + l.entry_bytes * r)) (omega arith) at), omega arith)
+    let same : l.entry_bytes * (suc q - 1) ≡ l.entry_bytes * q = ap (λ (n : ℕ). l.entry_bytes * n) (omega arith) in (
+      t + 2 * l.default_words + l.entry_bytes * r,
+      again m (suc r) _
+          (subst (λ (n : ℕ). IsEntry l t (readable_end m) n (t + 2 * l.default_words + l.entry_bytes * r))
+          (omega arith) at),
+      omega arith,
+    )
 
 pub rising : (m : MemoryMap) (o p e f : ℕ) → entry_of m o ≡ Ok e → entry_of m p ≡ Ok f → p < o → f < e
 rising m zero p e f h k lt = absurd (omega arith)
@@ -145,37 +164,53 @@ count_begins m tabled = record {
 }
 
 -- there is no table of objects
-pub none_listed : (m : MemoryMap) → (header_of m.file).objects ≡ 0 → (o e : ℕ) → IsListed m o e ↔ ((o ≤ 0) × (entry_of m o ≡ Ok e))
+pub none_listed : (m : MemoryMap) → (header_of m.file).objects ≡ 0 → (o e : ℕ)
+    → IsListed m o e ↔ ((o ≤ 0) × (entry_of m o ≡ Ok e))
 none_listed m none o e = (λ h. absurd (h.tabled none), λ h. absurd (zero_none m o e h.0 h.1))
 
 -- one object more
-pub one_more : (m : MemoryMap) (before lowest e : ℕ) → Counting m before lowest → entry_of m (before + 1) ≡ Ok e → e < lowest → Counting m (before + 1) (lower_of (table_of m (before + 1)) lowest)
+pub one_more : (m : MemoryMap) (before lowest e : ℕ) → Counting m before lowest → entry_of m (before + 1) ≡ Ok e
+    → e < lowest → Counting m (before + 1) (lower_of (table_of m (before + 1)) lowest)
 one_more m before lowest e c h lt = record {
   tabled = c.tabled;
-  whole = λ o some le. elim (cases_eq o (before + 1)) [ inl s ↦ (e, subst (λ (n : ℕ). entry_of m n ≡ Ok e) (sym s) h) | inr n ↦ c.whole o some (omega arith) ];
+  whole =
+      λ o some le. elim (cases_eq o (before + 1)) [
+        | inl s ↦ (e, subst (λ (n : ℕ). entry_of m n ≡ Ok e) (sym s) h)
+        | inr n ↦ c.whole o some (omega arith)
+      ];
   listed = λ o f le k. elim (cases_eq o (before + 1)) [
-    | inl s ↦ record { tabled = c.tabled; stands = k; below = λ p t lo at. c.low f (let same = same_ok (entry_of m (before + 1)) e f h (ap (entry_of m) (sym s) ∙ k) in omega arith) p t (omega arith) at }
+    | inl s ↦ record {
+      tabled = c.tabled;
+      stands = k;
+      below = λ p t lo at. c.low f
+          (let same = same_ok (entry_of m (before + 1)) e f h (ap (entry_of m) (sym s) ∙ k) in omega arith) p t
+          (omega arith) at;
+    }
     | inr n ↦ c.listed o f (omega arith) k
   ];
   low = λ f less p t le at. elim (cases_eq p (before + 1)) [
     | inl s ↦ lower_table (table_of m (before + 1)) lowest t f (ap (table_of m) (sym s) ∙ at) less
     | inr n ↦ c.low f (lower_first (table_of m (before + 1)) lowest f less) p t (omega arith) at
   ];
-  lowest_is = λ f small above. lower_both (table_of m (before + 1)) lowest f (c.lowest_is f small (λ p t le at. above p t (omega arith) at)) (λ t at. above (before + 1) t (omega arith) at);
+  lowest_is = λ f small above. lower_both (table_of m (before + 1)) lowest f
+      (c.lowest_is f small (λ p t le at. above p t (omega arith) at)) (λ t at. above (before + 1) t (omega arith) at);
 }
 
 -- the next has no entry
-pub count_ends : (m : MemoryMap) (before lowest : ℕ) (f : Fault) → Counting m before lowest → entry_of m (before + 1) ≡ Err f → (o e : ℕ) → IsListed m o e ↔ ((o ≤ before) × (entry_of m o ≡ Ok e))
+pub count_ends : (m : MemoryMap) (before lowest : ℕ) (f : Fault) → Counting m before lowest
+    → entry_of m (before + 1) ≡ Err f → (o e : ℕ) → IsListed m o e ↔ ((o ≤ before) × (entry_of m o ≡ Ok e))
 count_ends m before lowest f c none o e = (
   λ h. elim (cases_lt before o) [
-    | inl lt ↦ absurd (let at = lower_entry m o (before + 1) e h.stands (omega arith) (omega arith) in let b = at.1 in cc)
+    | inl lt ↦ absurd (let at = lower_entry m o (before + 1) e h.stands (omega arith) (omega arith) in
+        let b = at.1 in cc)
     | inr le ↦ (le, h.stands)
   ],
   λ h. c.listed o e h.0 h.1,
 )
 
 -- the next begins at a property table or after one
-pub count_meets : (m : MemoryMap) (before lowest f : ℕ) → Counting m before lowest → entry_of m (before + 1) ≡ Ok f → lowest ≤ f → (o e : ℕ) → IsListed m o e ↔ ((o ≤ before) × (entry_of m o ≡ Ok e))
+pub count_meets : (m : MemoryMap) (before lowest f : ℕ) → Counting m before lowest
+    → entry_of m (before + 1) ≡ Ok f → lowest ≤ f → (o e : ℕ) → IsListed m o e ↔ ((o ≤ before) × (entry_of m o ≡ Ok e))
 count_meets m before lowest f c at high o e = (
   λ h. elim (cases_lt before o) [
     | inl lt ↦ absurd (
@@ -192,9 +227,15 @@ count_meets m before lowest f c at high o e = (
 )
 
 -- all are listed
-pub count_full : (m : MemoryMap) (lowest : ℕ) → Counting m 65535 lowest → (o e : ℕ) → IsListed m o e ↔ ((o ≤ 65535) × (entry_of m o ≡ Ok e))
-count_full m lowest c o e = (λ h. (let few = (probe m o e h.stands).few in let most = (sizes m.version).1 in omega arith, h.stands), λ h. c.listed o e h.0 h.1)
+pub count_full : (m : MemoryMap) (lowest : ℕ) → Counting m 65535 lowest → (o e : ℕ)
+    → IsListed m o e ↔ ((o ≤ 65535) × (entry_of m o ≡ Ok e))
+count_full m lowest c o e = (
+  λ h. (let few = (probe m o e h.stands).few in let most = (sizes m.version).1 in omega arith, h.stands),
+  λ h. c.listed o e h.0 h.1,
+)
 
 -- all that are counted have an entry
-pub count_whole : (m : MemoryMap) (before lowest : ℕ) → Counting m before lowest → (o : ℕ) → 0 < o → o ≤ before → IsOk (entry_of m o)
-count_whole m before lowest c o some le = let at = c.whole o some le in subst (λ (r : Result ℕ Fault). IsOk r) (sym at.1) refl
+pub count_whole : (m : MemoryMap) (before lowest : ℕ) → Counting m before lowest → (o : ℕ) → 0 < o → o ≤ before
+    → IsOk (entry_of m o)
+count_whole m before lowest c o some le =
+    let at = c.whole o some le in subst (λ (r : Result ℕ Fault). IsOk r) (sym at.1) refl

@@ -1,5 +1,7 @@
 -- Where siblings lead that go on and on.
-use Rattle.std.proofs.Common.{◌≡◌, ◌≢◌, ◌∙◌, ℕ, zero, suc, ◌+◌, ◌-◌, ◌^◌, ◌<◌, ◌≤◌, ◌⊎◌, inl, inr, Bool, true, false, List, [], ◌∷◌, ◌++◌, length, length-append, get_or, map, Result, Ok, Err, refl, sym, ap, subst, arith, eqb}
+use Rattle.std.proofs.Common.{◌≡◌, ◌≢◌, ◌∙◌, ℕ, zero, suc, ◌+◌, ◌-◌, ◌^◌, ◌<◌, ◌≤◌, ◌⊎◌, inl, inr, Bool, true, false}
+use Rattle.std.proofs.Common.{List, [], ◌∷◌, ◌++◌, length, length-append, get_or, map, Result, Ok, Err, refl, sym, ap}
+use Rattle.std.proofs.Common.{subst, arith, eqb}
 use Rattle.std.specs.Prelude.{not}
 use Rattle.std.proofs.lemmas.Bool.{cases_lt, cases_eq, ne_eqb, eq-eqb}
 use Rattle.std.proofs.lemmas.List.{get_or-map, get_or_append_left, get_or_past, length-map}
@@ -49,26 +51,30 @@ after_more m (suc a) b o =
 after_end : (m : MemoryMap) (a b o : ℕ) → sibling_after m a o ≡ 0 → a ≤ b → sibling_after m b o ≡ 0
 after_end m a b o h le =
     let e : a + (b - a) ≡ b = omega arith in
-    subst (λ (n : ℕ). sibling_after m n o ≡ 0) e (after_more m a (b - a) o ∙ ap (sibling_after m (b - a)) h ∙ after_zero m (b - a))
+    subst (λ (n : ℕ). sibling_after m n o ≡ 0) e (after_more m a (b - a) o ∙ ap (sibling_after m (b - a)) h
+    ∙ after_zero m (b - a))
 
 not_bad : (r : Result (List ℕ) Fault) (x : ℕ) → is_bad_tree (r >>= λ xs. Ok (x ∷ xs)) ≡ false → is_bad_tree r ≡ false
 not_bad (Ok xs) x h = refl
 not_bad (Err f) x h = h
 
 -- an object without an entry has no sibling
-next_by : (m : MemoryMap) (x : ℕ) (f : Fault) (r : Result ℕ Fault) → x ≢ 0 → link_at m (sibling_of x) ≡ r → entry_of m x ≡ Err f → next_sibling m x ≡ 0
+next_by : (m : MemoryMap) (x : ℕ) (f : Fault) (r : Result ℕ Fault) → x ≢ 0 → link_at m (sibling_of x) ≡ r
+    → entry_of m x ≡ Err f → next_sibling m x ≡ 0
 next_by m x f (Ok next) some l e = absurd (let has = (link_entry m (sibling_of x) next some l).1 in cc)
 next_by m x f (Err g) some l e = next_none m x g l
 
 -- the last object of a chain that does not repeat one
-last_by : (m : MemoryMap) (x : ℕ) (r : Result ℕ Fault) → x ≢ 0 → entry_of m x ≡ r → is_bad_tree {A = List ℕ} (r >>= λ a. Err BadTree) ≡ false → next_sibling m x ≡ 0
+last_by : (m : MemoryMap) (x : ℕ) (r : Result ℕ Fault) → x ≢ 0 → entry_of m x ≡ r
+    → is_bad_tree {A = List ℕ} (r >>= λ a. Err BadTree) ≡ false → next_sibling m x ≡ 0
 last_by m x (Ok a) some e h = absurd cc
 last_by m x (Err f) some e h = next_by m x f (link_at m (sibling_of x)) some refl e
 
 -- from an object whose sibling is known
 on_by : (m : MemoryMap) (n x : ℕ) (r : Result ℕ Fault) → link_at m (sibling_of x) ≡ r
     → ((next : ℕ) → is_bad_tree (chain_from m n next) ≡ false → sibling_after m (suc n) next ≡ 0)
-    → is_bad_tree (r >>= λ next. chain_from m n next >>= λ xs. Ok (x ∷ xs)) ≡ false → sibling_after m (suc n) (next_sibling m x) ≡ 0
+    → is_bad_tree (r >>= λ next. chain_from m n next >>= λ xs. Ok (x ∷ xs)) ≡ false
+    → sibling_after m (suc n) (next_sibling m x) ≡ 0
 on_by m n x (Ok next) l rest h = rw (next_is m x next l) (rest next (not_bad (chain_from m n next) x h))
 on_by m n x (Err f) l rest h = rw (next_none m x f l) (after_zero m (suc n))
 
@@ -107,7 +113,8 @@ repeats_again m o first l r =
     let same : r.path.first ≡ first = (let e : Ok r.path.first ≡ Ok first = sym r.path.child ∙ l in cc) in
     record { xs = r.xs; again = r.again; path = rw same at r.path.path; among = r.among }
 
-children_by : (m : MemoryMap) (o first : ℕ) → link_at m (child_of o) ≡ Ok first → children_of m o ≡ chain_from m (entries m) first
+children_by : (m : MemoryMap) (o first : ℕ) → link_at m (child_of o) ≡ Ok first
+    → children_of m o ≡ chain_from m (entries m) first
 unfolding children_of
 children_by m o first l = rw l refl
 
@@ -116,7 +123,9 @@ unfolding children_of
 children_none m o f l = rw l refl
 
 -- a chain repeats an object where it has not come to its end after so many
-repeats_by : (m : MemoryMap) (o first far : ℕ) (b : Bool) → link_at m (child_of o) ≡ Ok first → far ≡ sibling_after m 65536 first → is_bad_tree (children_of m o) ≡ b → (far ≢ 0 → b ≡ true) × (far ≡ 0 → b ≡ false)
+repeats_by : (m : MemoryMap) (o first far : ℕ) (b : Bool) → link_at m (child_of o) ≡ Ok first
+    → far ≡ sibling_after m 65536 first → is_bad_tree (children_of m o) ≡ b → (far ≢ 0 → b ≡ true)
+    × (far ≡ 0 → b ≡ false)
 repeats_by m o first far true l e h =
     let r = (children_are_chains m o).repeats.0 (bad_tree (children_of m o) h) in
     (λ ne. refl, λ z. absurd (goes_on m 65536 first (repeats_again m o first l r) (sym e ∙ z)))
@@ -125,18 +134,22 @@ repeats_by m o first far false l e h =
     let le : suc (entries m) ≤ 65536 = (let k = few m in omega arith) in
     (λ ne. absurd (ne (e ∙ after_end m (suc (entries m)) 65536 first done le)), λ z. refl)
 
-repeats_far : (m : MemoryMap) (o first far : ℕ) → link_at m (child_of o) ≡ Ok first → far ≡ sibling_after m 65536 first → far ≢ 0 → is_bad_tree (children_of m o) ≡ true
+repeats_far : (m : MemoryMap) (o first far : ℕ) → link_at m (child_of o) ≡ Ok first
+    → far ≡ sibling_after m 65536 first → far ≢ 0 → is_bad_tree (children_of m o) ≡ true
 repeats_far m o first far l e ne = (repeats_by m o first far (is_bad_tree (children_of m o)) l e refl).0 ne
 
-ends_far : (m : MemoryMap) (o first far : ℕ) → link_at m (child_of o) ≡ Ok first → far ≡ sibling_after m 65536 first → far ≡ 0 → is_bad_tree (children_of m o) ≡ false
+ends_far : (m : MemoryMap) (o first far : ℕ) → link_at m (child_of o) ≡ Ok first
+    → far ≡ sibling_after m 65536 first → far ≡ 0 → is_bad_tree (children_of m o) ≡ false
 ends_far m o first far l e z = (repeats_by m o first far (is_bad_tree (children_of m o)) l e refl).1 z
 
 -- an object without an entry has no chain
-pub no_child : (m : MemoryMap) (o : ℕ) (f : Fault) → link_at m (child_of o) ≡ Err f → is_bad_tree (children_of m o) ≡ false
+pub no_child : (m : MemoryMap) (o : ℕ) (f : Fault) → link_at m (child_of o) ≡ Err f
+    → is_bad_tree (children_of m o) ≡ false
 unfolding link_at
 no_child m o f l = elim (cases_eq o 0) [
   | inl e ↦ absurd (let none = rw e at l in cc)
-  | inr ne ↦ (let bad = (link_bad m (child_of o) f ne l).1 in ap is_bad_tree (children_none m o f l) ∙ ap (λ (g : Fault). is_bad_tree {A = List ℕ} (Err g)) bad)
+  | inr ne ↦ (let bad = (link_bad m (child_of o) f ne l).1 in ap is_bad_tree (children_none m o f l)
+      ∙ ap (λ (g : Fault). is_bad_tree {A = List ℕ} (Err g)) bad)
 ]
 
 -- ---- lists of siblings
@@ -144,16 +157,20 @@ no_child m o f l = elim (cases_eq o 0) [
 pub siblings_begin : (m : MemoryMap) → HasSiblings m 0 (0 ∷ [])
 siblings_begin m = record { size = refl; each = λ o le. (let e : o ≡ 0 = omega arith in rw e (sym (next_zero m))) }
 
-pub siblings_more : (m : MemoryMap) (last : ℕ) (xs : List ℕ) → HasSiblings m last xs → HasSiblings m (last + 1) (xs ++ next_sibling m (last + 1) ∷ [])
+pub siblings_more : (m : MemoryMap) (last : ℕ) (xs : List ℕ) → HasSiblings m last xs
+    → HasSiblings m (last + 1) (xs ++ next_sibling m (last + 1) ∷ [])
 siblings_more m last xs h = record {
   size = (let e = length-append xs (next_sibling m (last + 1) ∷ []) in let s = h.size in omega arith);
   each = λ o le. elim (cases_eq o (last + 1)) [
-    | inl e ↦ (let s : length xs ≡ last + 1 = h.size in rw (e, ← s) (get_or-append_seam xs (next_sibling m (length xs)) [] 0))
-    | inr ne ↦ (let s = h.size in get_or_append_left xs (next_sibling m (last + 1) ∷ []) 0 o (omega arith) ∙ h.each o (omega arith))
+    | inl e ↦ (let s : length xs ≡ last + 1 = h.size in
+        rw (e, ← s) (get_or-append_seam xs (next_sibling m (length xs)) [] 0))
+    | inr ne ↦ (let s = h.size in get_or_append_left xs (next_sibling m (last + 1) ∷ []) 0 o (omega arith)
+        ∙ h.each o (omega arith))
   ];
 }
 
-past_by : (m : MemoryMap) (o : ℕ) (r : Result ℕ Fault) → link_at m (sibling_of o) ≡ r → entries m < o → next_sibling m o ≡ 0
+past_by : (m : MemoryMap) (o : ℕ) (r : Result ℕ Fault) → link_at m (sibling_of o) ≡ r → entries m < o
+    → next_sibling m o ≡ 0
 past_by m o (Ok next) l lt = absurd (let le = linked_counted m o next (λ e. omega arith) l in omega arith)
 past_by m o (Err f) l lt = next_none m o f l
 
@@ -162,30 +179,37 @@ pub siblings_end : (m : MemoryMap) (last : ℕ) (xs : List ℕ) → last ≡ ent
 unfolding sibling_after
 siblings_end m last xs is h = record {
   each = λ o. elim (cases_lt last o) [
-    | inl lt ↦ (let s = h.size in get_or_past xs o 0 (omega arith) ∙ sym (past_by m o (link_at m (sibling_of o)) refl (omega arith)))
+    | inl lt ↦ (let s = h.size in get_or_past xs o 0 (omega arith)
+        ∙ sym (past_by m o (link_at m (sibling_of o)) refl (omega arith)))
     | inr le ↦ h.each o le
   ];
 }
 
 -- twice as far
-pub ahead_twice : (m : MemoryMap) (n : ℕ) (xs : List ℕ) → IsAhead m n xs → IsAhead m (n + n) (map (λ o. get_or xs o 0) xs)
+pub ahead_twice : (m : MemoryMap) (n : ℕ) (xs : List ℕ) → IsAhead m n xs
+    → IsAhead m (n + n) (map (λ o. get_or xs o 0) xs)
 ahead_twice m n xs h = record {
   each = λ o. elim (cases_lt o (length xs)) [
-    | inl lt ↦ get_or-map (λ (x : ℕ). get_or xs x 0) xs o 0 0 lt ∙ h.each (get_or xs o 0) ∙ ap (sibling_after m n) (h.each o) ∙ sym (after_more m n n o)
+    | inl lt ↦ get_or-map (λ (x : ℕ). get_or xs x 0) xs o 0 0 lt ∙ h.each (get_or xs o 0)
+        ∙ ap (sibling_after m n) (h.each o) ∙ sym (after_more m n n o)
     | inr ge ↦
-        get_or_past (map (λ (x : ℕ). get_or xs x 0) xs) o 0 (let l = length-map xs (λ (x : ℕ). get_or xs x 0) in omega arith)
+        get_or_past (map (λ (x : ℕ). get_or xs x 0) xs) o 0 (let l = length-map xs (λ (x : ℕ). get_or xs x 0) in
+        omega arith)
         ∙ sym (after_end m n (n + n) o (sym (h.each o) ∙ get_or_past xs o 0 ge) (omega arith))
   ];
 }
 
-pub ahead_power : (m : MemoryMap) (n : ℕ) (xs ys : List ℕ) → IsAhead m (2 ^ n) xs → ys ≡ map (λ o. get_or xs o 0) xs → IsAhead m (2 ^ (n + 1)) ys
+pub ahead_power : (m : MemoryMap) (n : ℕ) (xs ys : List ℕ) → IsAhead m (2 ^ n) xs
+    → ys ≡ map (λ o. get_or xs o 0) xs → IsAhead m (2 ^ (n + 1)) ys
 ahead_power m n xs ys h is =
     let e : n + 1 ≡ suc n = omega arith in
     let twice : 2 ^ n + 2 ^ n ≡ 2 ^ (n + 1) = rw e (let p = pow-suc 2 n in omega arith) in
-    subst (λ (zs : List ℕ). IsAhead m (2 ^ (n + 1)) zs) (sym is) (subst (λ (k : ℕ). IsAhead m k (map (λ o. get_or xs o 0) xs)) twice (ahead_twice m (2 ^ n) xs h))
+    subst (λ (zs : List ℕ). IsAhead m (2 ^ (n + 1)) zs) (sym is)
+    (subst (λ (k : ℕ). IsAhead m k (map (λ o. get_or xs o 0) xs)) twice (ahead_twice m (2 ^ n) xs h))
 
 -- what is known of an object's first child decides
-pub far_decides : (m : MemoryMap) (o first far : ℕ) → link_at m (child_of o) ≡ Ok first → far ≡ sibling_after m 65536 first → not (eqb far 0) ≡ is_bad_tree (children_of m o)
+pub far_decides : (m : MemoryMap) (o first far : ℕ) → link_at m (child_of o) ≡ Ok first
+    → far ≡ sibling_after m 65536 first → not (eqb far 0) ≡ is_bad_tree (children_of m o)
 far_decides m o first far l e = elim (cases_eq far 0) [
   | inl z ↦ rw (eq-eqb far 0 z) (sym (ends_far m o first far l e z))
   | inr ne ↦ rw (ne_eqb far 0 ne) (sym (repeats_far m o first far l e ne))

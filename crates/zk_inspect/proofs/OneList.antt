@@ -1,5 +1,6 @@
 -- Numbers are listed, ascending and each once, in one way.
-use Rattle.std.proofs.Common.{◌≡◌, ℕ, suc, zero, ◌+◌, ◌<◌, ◌≤◌, ◌⊎◌, inl, inr, List, [], ◌∷◌, length, get_or, refl, sym, ap₂, subst, arith}
+use Rattle.std.proofs.Common.{◌≡◌, ℕ, suc, zero, ◌+◌, ◌<◌, ◌≤◌, ◌⊎◌, inl, inr, List, [], ◌∷◌, length, get_or, refl, sym}
+use Rattle.std.proofs.Common.{ap₂, subst, arith}
 use Rattle.std.specs.List.{Contains}
 use Rattle.std.specs.List.Sorted.{IsStrictlyIncreasing}
 use Rattle.std.proofs.lemmas.Grind.{get_or_default_zero}
@@ -23,7 +24,8 @@ above x xs up zero lt = up 0 (omega arith)
 above x xs up (suc k) lt =
     let lower = above x xs up k (omega arith) in
     let e : k + 1 ≡ suc k = omega arith in
-    let next : get_or xs k 0 < get_or xs (suc k) 0 = subst (λ (j : ℕ). get_or xs k 0 < get_or xs j 0) e (behind x xs up k (omega arith)) in
+    let next : get_or xs k 0 < get_or xs (suc k) 0 = subst (λ (j : ℕ). get_or xs k 0 < get_or xs j 0) e
+    (behind x xs up k (omega arith)) in
     omega arith
 
 -- a member is the first, or one after it
@@ -40,16 +42,19 @@ behind_above x a xs up (k, lt, e) =
 
 -- no member is below the first
 least : (x a : ℕ) (xs : List ℕ) → IsStrictlyIncreasing (x ∷ xs) → Contains (x ∷ xs) a → x ≤ a
-least x a xs up c = elim (first_or x a xs c) [ inl e ↦ omega arith | inr k ↦ let lt = behind_above x a xs up k in omega arith ]
+least x a xs up c =
+    elim (first_or x a xs c) [ inl e ↦ omega arith | inr k ↦ let lt = behind_above x a xs up k in omega arith ]
 
 -- the lists after equal firsts
-within_behind : (x y : ℕ) (xs ys : List ℕ) → IsStrictlyIncreasing (x ∷ xs) → x ≡ y → Within (x ∷ xs) (y ∷ ys) → Within xs ys
+within_behind : (x y : ℕ) (xs ys : List ℕ) → IsStrictlyIncreasing (x ∷ xs) → x ≡ y → Within (x ∷ xs) (y ∷ ys)
+    → Within xs ys
 within_behind x y xs ys up same within a (k, lt, e) = elim (first_or y a ys (within a (suc k, omega arith, e))) [
   | inl f ↦ absurd (let higher = behind_above x a xs up (k, lt, e) in omega arith)
   | inr c ↦ c
 ]
 
-same_lists : (xs ys : List ℕ) → IsStrictlyIncreasing xs → IsStrictlyIncreasing ys → Within xs ys → Within ys xs → xs ≡ ys
+same_lists : (xs ys : List ℕ) → IsStrictlyIncreasing xs → IsStrictlyIncreasing ys → Within xs ys
+    → Within ys xs → xs ≡ ys
 same_lists [] [] up vp in_ys in_xs = refl
 same_lists [] (y ∷ ys) up vp in_ys in_xs = let lt = (in_xs y (0, omega arith, refl)).1 in absurd (omega arith)
 same_lists (x ∷ xs) [] up vp in_ys in_xs = let lt = (in_ys x (0, omega arith, refl)).1 in absurd (omega arith)
@@ -58,11 +63,15 @@ same_lists (x ∷ xs) (y ∷ ys) up vp in_ys in_xs =
     let ge = least x y xs up (in_xs y (0, omega arith, refl)) in
     let same : x ≡ y = omega arith in
     ap₂ (λ (a : ℕ) (bs : List ℕ). a ∷ bs) same
-    (same_lists xs ys (behind x xs up) (behind y ys vp) (within_behind x y xs ys up same in_ys) (within_behind y x ys xs vp (sym same) in_xs))
+    (same_lists xs ys (behind x xs up) (behind y ys vp) (within_behind x y xs ys up same in_ys)
+    (within_behind y x ys xs vp (sym same) in_xs))
 
 pub one_list : (P : ℕ → Type 0) (xs ys : List ℕ) → IsListOf P xs → IsListOf P ys → xs ≡ ys
-one_list P xs ys h k = same_lists xs ys h.ascending k.ascending (λ a c. k.whole a (h.listed a c)) (λ a c. h.whole a (k.listed a c))
+one_list P xs ys h k =
+    same_lists xs ys h.ascending k.ascending (λ a c. k.whole a (h.listed a c)) (λ a c. h.whole a (k.listed a c))
 
 pub one_code : OneCode
 one_code m c d h k =
-    ap₂ (λ (bs rs : List ℕ). record { addresses = bs; routines = rs }) (one_list (IsReached m) c.addresses d.addresses h.addresses k.addresses) (one_list (IsCalled m) c.routines d.routines h.routines k.routines)
+    ap₂ (λ (bs rs : List ℕ). record { addresses = bs; routines = rs })
+    (one_list (IsReached m) c.addresses d.addresses h.addresses k.addresses)
+    (one_list (IsCalled m) c.routines d.routines h.routines k.routines)

@@ -19,7 +19,8 @@ has_units (Ok us) h = refl
 has_units (Err f) h = absurd cc
 
 -- a unit's characters are kept
-pub kept_unit : (t : ExtraTable) (all : List ℕ) (u : Unit) (cs xs : List ℕ) → cs ≡ shown t u → xs ≡ take 61 (all ++ cs) → xs ≡ take 61 (all ++ shown_all t (u ∷ []))
+pub kept_unit : (t : ExtraTable) (all : List ℕ) (u : Unit) (cs xs : List ℕ) → cs ≡ shown t u
+    → xs ≡ take 61 (all ++ cs) → xs ≡ take 61 (all ++ shown_all t (u ∷ []))
 kept_unit t all u cs xs is h = h ∙ ap (λ (l : List ℕ). take 61 (all ++ l)) (is ∙ sym (shown_all-one t u))
 
 -- where fewer were taken than might be, all were
@@ -59,17 +60,23 @@ same_test (suc n) [] = refl
 same_test (suc n) (x ∷ xs) = leb-suc-suc (length (take (suc n) xs)) n ∙ same_test n xs ∙ sym (leb-suc-suc (length xs) n)
 
 -- a text by its first characters
-pub by_beginning : (b cs : List ℕ) → b ≡ take 61 cs → shortened cs ≡ codes "\"" ++ quoted_bytes (take 60 b) ++ (if nat_le (length b) 60 then codes "\"" else codes "\"...")
+pub by_beginning : (b cs : List ℕ) → b ≡ take 61 cs → shortened cs ≡ codes "\"" ++ quoted_bytes (take 60 b)
+    ++ (if nat_le (length b) 60 then codes "\"" else codes "\"...")
 unfolding shortened
 by_beginning b cs h =
-    ap (λ (t : List ℕ). codes "\"" ++ quoted_bytes t ++ (if nat_le (length cs) 60 then codes "\"" else codes "\"...")) (sym (take_less 60 61 cs (omega arith)) ∙ ap (take 60) (sym h))
-    ∙ ap (λ (k : Bool). codes "\"" ++ quoted_bytes (take 60 b) ++ (if k then codes "\"" else codes "\"...")) (sym (same_test 60 cs) ∙ ap (λ (l : List ℕ). nat_le (length l) 60) (sym h))
+    ap (λ (t : List ℕ). codes "\"" ++ quoted_bytes t
+    ++ (if nat_le (length cs) 60 then codes "\"" else codes "\"..."))
+    (sym (take_less 60 61 cs (omega arith)) ∙ ap (take 60) (sym h))
+    ∙ ap (λ (k : Bool). codes "\"" ++ quoted_bytes (take 60 b) ++ (if k then codes "\"" else codes "\"..."))
+    (sym (same_test 60 cs) ∙ ap (λ (l : List ℕ). nat_le (length l) 60) (sym h))
 
-pub short_of : (m : MemoryMap) (r : Units) → IsOk r → short_text m r ≡ shortened (shown_all (own_characters m) (units_or_none r))
+pub short_of : (m : MemoryMap) (r : Units) → IsOk r → short_text m r ≡ shortened
+    (shown_all (own_characters m) (units_or_none r))
 unfolding short_text
 short_of m (Ok us) h = refl
 short_of m (Err f) h = absurd cc
 
-pub short_fault : (m : MemoryMap) (r : Units) (f : Fault) → r ≡ Err f → short_text m r ≡ codes "! F" ++ decimal (fault_number f)
+pub short_fault : (m : MemoryMap) (r : Units) (f : Fault) → r ≡ Err f → short_text m r ≡ codes "! F"
+    ++ decimal (fault_number f)
 unfolding short_text
 short_fault m r f e = rw e refl

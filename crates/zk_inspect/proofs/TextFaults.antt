@@ -6,7 +6,8 @@ use Rattle.zk_mem.specs.declared.fault.Fault.{Fault}
 use Rattle.zk_mem.specs.declared.fault.Fault.TheVariants.{NestedAbbreviation, TextPastEnd}
 use Rattle.zk_mem.specs.Map.{MemoryMap}
 use Rattle.zk_text.specs.Meaning.{Units, meaning_at, no_abbreviation, text_units}
-use Rattle.zk_inspect.specs.declared.check.finding.Number.TheVariants.{TextPastTheEnd, NestedAbbreviation as NestedNumber}
+use Rattle.zk_inspect.specs.declared.check.finding.Number.TheVariants.{TextPastTheEnd}
+use Rattle.zk_inspect.specs.declared.check.finding.Number.TheVariants.{NestedAbbreviation as NestedNumber}
 use Rattle.zk_inspect.specs.declared.check.text_faults.TextFault.{TextFault}
 use Rattle.zk_inspect.specs.declared.check.text_faults.TextFault.TheVariants.{PastEnd, Nested}
 use Rattle.zk_inspect.specs.declared.check.texts.TextAddresses.{TextAddresses}
@@ -46,13 +47,17 @@ Fails m t kind a =
     ⊎ ((IsMarked t.abbreviations a × (meaning_at no_abbreviation m a ≡ Err (fault_of kind)))
     ⊎ ((is_of kind TextPastEnd ≡ true) × IsMarked t.unread a))
 
-fails_decides : (m : MemoryMap) (t : TextAddresses) (kind : TextFault) (a : ℕ) → text_fails m t kind a ≡ true ↔ Fails m t kind a
+fails_decides : (m : MemoryMap) (t : TextAddresses) (kind : TextFault) (a : ℕ) → text_fails m t kind a ≡ true
+    ↔ Fails m t kind a
 fails_decides m t kind a =
     three_decide _ _ _ (Decides-and _ _ (itself (get_or t.printed a false)) (has_decides kind (text_units m a)))
-    (Decides-and _ _ (itself (get_or t.abbreviations a false)) (has_decides kind (meaning_at no_abbreviation m a))) (Decides-and _ _ (itself (is_of kind TextPastEnd)) (itself (get_or t.unread a false)))
+    (Decides-and _ _ (itself (get_or t.abbreviations a false))
+    (has_decides kind (meaning_at no_abbreviation m a)))
+    (Decides-and _ _ (itself (is_of kind TextPastEnd)) (itself (get_or t.unread a false)))
 
 -- no text is looked for further on
-pub fails_near : (m : MemoryMap) (t : TextAddresses) (kind : TextFault) (a : ℕ) → AreTextMarks m t → text_fails m t kind a ≡ true → a < 524289
+pub fails_near : (m : MemoryMap) (t : TextAddresses) (kind : TextFault) (a : ℕ) → AreTextMarks m t
+    → text_fails m t kind a ≡ true → a < 524289
 fails_near m t kind a h k = elim ((fails_decides m t kind a).0 k) [
   | inl p ↦ (let lt = marked_inside t.printed a p.0 in let size = h.size in omega arith)
   | inr (inl p) ↦ (let lt = marked_inside t.abbreviations a p.0 in let size = h.table.size in omega arith)
@@ -63,12 +68,14 @@ fails_near m t kind a h k = elim ((fails_decides m t kind a).0 k) [
 abbrev Found : MemoryMap → TextFault → ℕ → Type 0
 Found m kind a = HasFault m (fault_of kind) a ⊎ ((is_of kind TextPastEnd ≡ true) × IsUnread m a)
 
-fails_found : (m : MemoryMap) (t : TextAddresses) (kind : TextFault) (a : ℕ) → AreTextMarks m t → Fails m t kind a → Found m kind a
+fails_found : (m : MemoryMap) (t : TextAddresses) (kind : TextFault) (a : ℕ) → AreTextMarks m t → Fails m t kind a
+    → Found m kind a
 fails_found m t kind a h (inl p) = inl (inl ((h.printed a).0 p.0, p.1))
 fails_found m t kind a h (inr (inl p)) = inl (inr ((h.table.named a).0 p.0, p.1))
 fails_found m t kind a h (inr (inr p)) = inr (p.0, (h.table.words a).0 p.1)
 
-found_fails : (m : MemoryMap) (t : TextAddresses) (kind : TextFault) (a : ℕ) → AreTextMarks m t → Found m kind a → Fails m t kind a
+found_fails : (m : MemoryMap) (t : TextAddresses) (kind : TextFault) (a : ℕ) → AreTextMarks m t → Found m kind a
+    → Fails m t kind a
 found_fails m t kind a h (inl (inl p)) = inl ((h.printed a).1 p.0, p.1)
 found_fails m t kind a h (inl (inr p)) = inr (inl ((h.table.named a).1 p.0, p.1))
 found_fails m t kind a h (inr p) = inr (inr (p.0, (h.table.words a).1 p.1))
@@ -93,11 +100,19 @@ unfolding Finds
 nested_found m a p = inl p
 
 -- the tests tell what is found
-pub fails_past : (m : MemoryMap) (t : TextAddresses) (a : ℕ) → AreTextMarks m t → text_fails m t PastEnd a ≡ true ↔ Finds m TextPastTheEnd a
-fails_past m t a h = (λ p. found_past m a (fails_found m t PastEnd a h ((fails_decides m t PastEnd a).0 p)), λ p. (fails_decides m t PastEnd a).1 (found_fails m t PastEnd a h (past_found m a p)))
+pub fails_past : (m : MemoryMap) (t : TextAddresses) (a : ℕ) → AreTextMarks m t → text_fails m t PastEnd a ≡ true
+    ↔ Finds m TextPastTheEnd a
+fails_past m t a h = (
+  λ p. found_past m a (fails_found m t PastEnd a h ((fails_decides m t PastEnd a).0 p)),
+  λ p. (fails_decides m t PastEnd a).1 (found_fails m t PastEnd a h (past_found m a p)),
+)
 
-pub fails_nested : (m : MemoryMap) (t : TextAddresses) (a : ℕ) → AreTextMarks m t → text_fails m t Nested a ≡ true ↔ Finds m NestedNumber a
-fails_nested m t a h = (λ p. found_nested m a (fails_found m t Nested a h ((fails_decides m t Nested a).0 p)), λ p. (fails_decides m t Nested a).1 (found_fails m t Nested a h (nested_found m a p)))
+pub fails_nested : (m : MemoryMap) (t : TextAddresses) (a : ℕ) → AreTextMarks m t
+    → text_fails m t Nested a ≡ true ↔ Finds m NestedNumber a
+fails_nested m t a h = (
+  λ p. found_nested m a (fails_found m t Nested a h ((fails_decides m t Nested a).0 p)),
+  λ p. (fails_decides m t Nested a).1 (found_fails m t Nested a h (nested_found m a p)),
+)
 
 -- what is found is not further on than it is looked for
 pub past_near : (m : MemoryMap) (t : TextAddresses) (a : ℕ) → AreTextMarks m t → Finds m TextPastTheEnd a → a < 524289

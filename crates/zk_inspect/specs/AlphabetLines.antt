@@ -1,5 +1,5 @@
--- The alphabets in force (Standard, sections 3.2 and 3.5), and the extra characters (section 3.8.5). What a line looks like is
--- zkit's choice.
+-- The alphabets in force (Standard, sections 3.2 and 3.5), and the extra characters (section 3.8.5). What a line looks
+-- like is zkit's choice.
 use Rattle.std.specs.Prelude.{ℕ, ◌-◌, List, [], ◌∷◌, ◌++◌, codes, is_some, if◌then◌else◌}
 use Rattle.std.specs.List.{flat_map, range_with_len}
 use Rattle.zk_mem.specs.Map.{MemoryMap}
@@ -32,7 +32,9 @@ row_name A2 = codes "A2 \""
 
 -- the line of an alphabet: its letters up to Z-character 31, between quotes
 unfoldable pub alphabet_line : MemoryMap → Row → List ℕ
-alphabet_line m row = row_name row ++ flat_map (letter_text m row) (range_with_len (first_letter row) (32 - first_letter row)) ++ codes "\""
+alphabet_line m row =
+    row_name row ++ flat_map (letter_text m row) (range_with_len (first_letter row) (32 - first_letter row))
+    ++ codes "\""
 
 -- an extra character, where its code has one
 abbrev pub extra_text : MemoryMap → ℕ → List ℕ

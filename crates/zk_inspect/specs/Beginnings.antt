@@ -10,7 +10,8 @@ pub kept_nothing : (t : ExtraTable) (all xs : List ℕ) → xs ≡ take 61 all �
 unfolding shown_all
 kept_nothing t all xs h = h ∙ ap (take 61) (sym (append-nil all))
 
-pub kept_twice : (t u : ExtraTable) (all : List ℕ) (us vs : List Unit) (xs : List ℕ) → u ≡ t → xs ≡ take 61 ((all ++ shown_all t us) ++ shown_all u vs) → xs ≡ take 61 (all ++ shown_all t (us ++ vs))
+pub kept_twice : (t u : ExtraTable) (all : List ℕ) (us vs : List Unit) (xs : List ℕ) → u ≡ t
+    → xs ≡ take 61 ((all ++ shown_all t us) ++ shown_all u vs) → xs ≡ take 61 (all ++ shown_all t (us ++ vs))
 kept_twice t u all us vs xs same h =
     h ∙ ap (λ (x : ExtraTable). take 61 ((all ++ shown_all t us) ++ shown_all x vs)) same
     ∙ ap (take 61) (append_assoc all (shown_all t us) (shown_all t vs))

@@ -1,6 +1,8 @@
--- The code that lies in a story: what is reached, and the routines that stand one after another beside it (Standard, sections
+-- The code that lies in a story: what is reached, and the routines that stand one after another beside it (Standard,
+-- sections
 -- 1.2.3, 5 and 5.5). That one lies there says nothing about runs.
-use Rattle.std.specs.Prelude.{◌≡◌, ◌⊎◌, ◌↔◌, ℕ, List, [], ◌∷◌, ◌++◌, length, Some, option_to_list, nat_lt, if◌then◌else◌}
+use Rattle.std.specs.Prelude.{◌≡◌, ◌⊎◌, ◌↔◌, ℕ, List, [], ◌∷◌, ◌++◌, length, Some, option_to_list, nat_lt}
+use Rattle.std.specs.Prelude.{if◌then◌else◌}
 use Rattle.std.specs.List.{flat_map}
 use Rattle.zk_mem.specs.Header.{header_of}
 use Rattle.zk_mem.specs.Map.{MemoryMap}
@@ -38,10 +40,11 @@ IsNextRoutine m r n = (start : ℕ) × (code_start m r ≡ Some start) × IsNeig
 
 -- a routine lies beside some: it is one of them, the neighbour of the first code, or the neighbour of one that does
 abbrev pub LiesBeside : MemoryMap → List ℕ → ℕ → Type 0
-LiesBeside m routines = IsAmong (λ r. IsRoutineAt m routines r ⊎ IsNeighbour m (header_of m.file).first_instruction r) (IsNextRoutine m)
+LiesBeside m routines =
+    IsAmong (λ r. IsRoutineAt m routines r ⊎ IsNeighbour m (header_of m.file).first_instruction r) (IsNextRoutine m)
 
--- the code that lies in a story where some is named: what is reached from that and from the routines that lie beside, with marks
--- on those of the routines that are reached without these
+-- the code that lies in a story where some is named: what is reached from that and from the routines that lie beside,
+-- with marks on those of the routines that are reached without these
 pub record IsWhole (m : MemoryMap) (addresses routines : List ℕ) (w : Whole) : Type 0 where
   pub near : Code
   pub near_is : IsNamedCode m addresses routines near

@@ -15,7 +15,8 @@ extension_place m n = (header_of m.file).extension + 2 * n
 
 -- the line of a word: its number, its address, and its value
 unfoldable pub extension_line : MemoryMap → ℕ → List ℕ
-extension_line m n = decimal n ++ codes " " ++ address_digits (extension_place m n) ++ codes " " ++ word_text (word_at m (extension_place m n))
+extension_line m n = decimal n ++ codes " " ++ address_digits (extension_place m n) ++ codes " "
+    ++ word_text (word_at m (extension_place m n))
 
 -- how many words there are after the first, where that can be read
 abbrev pub words_stated : Result ℕ Fault → ℕ

@@ -37,13 +37,15 @@ part_name part.High = codes "high"
 part_name part.Start = codes "start"
 
 -- a writer was given some facts of which something holds
-pub record GaveSome {S : Type 0} (P : List Fact → Type 0) (wrote : S → S → List Fact → Type 0) (old new : S) : Type 0 where
+pub record GaveSome {S : Type 0} (P : List Fact → Type 0) (wrote : S → S → List Fact → Type 0)
+    (old new : S) : Type 0 where
   pub facts : List Fact
   pub is : P facts
   pub given : wrote old new facts
 
 -- facts were given, by whether that was refused: all that are wanted, or some
-abbrev pub GaveBy : {S : Type 0} → Bool → (All Some : List Fact → Type 0) → (S → S → List Fact → Type 0) → S → S → Type 0
+abbrev pub GaveBy : {S : Type 0} → Bool → (All Some : List Fact → Type 0) → (S → S → List Fact → Type 0) → S
+    → S → Type 0
 GaveBy {S} false All Some wrote old new = GaveSome All wrote old new
 GaveBy {S} true All Some wrote old new = GaveSome Some wrote old new
 
@@ -60,7 +62,8 @@ pub collected_none : {A : Type 0} (short : Bool) (old : List A) → Collected sh
 collected_none {A} false old = sym (append-nil old)
 collected_none {A} true old = refl
 
-pub collected_then : {A : Type 0} (x y z : Bool) (a b c : List A) (s t : List A) → Collected x y a b s → Collected y z b c t → Collected x z a c (s ++ t)
+pub collected_then : {A : Type 0} (x y z : Bool) (a b c : List A) (s t : List A) → Collected x y a b s
+    → Collected y z b c t → Collected x z a c (s ++ t)
 collected_then {A} false false false a b c s t h k = k ∙ ap (λ (l : List A). l ++ t) h ∙ append_assoc a s t
 collected_then {A} false false true a b c s t h k = tt
 collected_then {A} false true true a b c s t h k = tt

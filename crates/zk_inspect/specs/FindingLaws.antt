@@ -4,7 +4,11 @@ use Rattle.std.specs.List.{Contains}
 use Rattle.zk_mem.specs.Map.{MemoryMap}
 use Rattle.zk_inspect.specs.declared.check.finding.Finding.{Finding}
 use Rattle.zk_inspect.specs.declared.check.finding.Number.{Number}
-use Rattle.zk_inspect.specs.declared.check.finding.Number.TheVariants.{Checksum, Length, DictionaryOrder, DictionaryExtent, ObjectLinks, ChainWithARepeat, PropertyList, TextPastTheEnd, NestedAbbreviation, UndecodableCode, TargetOutOfTheStory, CodeBelowTheStaticBase}
+use Rattle.zk_inspect.specs.declared.check.finding.Number.TheVariants.{Checksum, Length, DictionaryOrder}
+use Rattle.zk_inspect.specs.declared.check.finding.Number.TheVariants.{DictionaryExtent, ObjectLinks, ChainWithARepeat}
+use Rattle.zk_inspect.specs.declared.check.finding.Number.TheVariants.{PropertyList, TextPastTheEnd, NestedAbbreviation}
+use Rattle.zk_inspect.specs.declared.check.finding.Number.TheVariants.{UndecodableCode, TargetOutOfTheStory}
+use Rattle.zk_inspect.specs.declared.check.finding.Number.TheVariants.{CodeBelowTheStaticBase}
 use Rattle.zk_inspect.specs.Findings.{AreFindings, Finds, at_address}
 
 -- the numbers that reports show
@@ -29,7 +33,8 @@ Precedes f g = (rank_of f.number < rank_of g.number) ⊎ ((f.number ≡ g.number
 -- the findings are all that is wrong, each comes before those after it, and there are none where nothing is wrong
 pub record AreAllFindings (m : MemoryMap) (fs : List Finding) : Type 0 where
   pub exact : (n : Number) (a : ℕ) → Contains fs (at_address n a) ↔ Finds m n a
-  pub ascending : (before between behind : List Finding) (f g : Finding) → fs ≡ before ++ f ∷ (between ++ g ∷ behind) → Precedes f g
+  pub ascending : (before between behind : List Finding) (f g : Finding) → fs ≡ before ++ f
+      ∷ (between ++ g ∷ behind) → Precedes f g
   pub none : (fs ≡ []) ↔ ((n : Number) (a : ℕ) → Finds m n a → ⊥)
 
 -- of each story

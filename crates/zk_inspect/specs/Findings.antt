@@ -1,7 +1,8 @@
 -- What is wrong with a story, and where.
 use Rattle.std.specs.Prelude.{◌≡◌, ◌≢◌, ◌⊎◌, ℕ, ◌<◌, false, List, [], ◌∷◌, map, length, Err}
 use Rattle.std.specs.List.{flat_map}
-use Rattle.zk_mem.specs.declared.fault.Fault.TheVariants.{BadDictionary, TextPastEnd as PastEnd, NestedAbbreviation as Nested}
+use Rattle.zk_mem.specs.declared.fault.Fault.TheVariants.{BadDictionary, TextPastEnd as PastEnd}
+use Rattle.zk_mem.specs.declared.fault.Fault.TheVariants.{NestedAbbreviation as Nested}
 use Rattle.zk_mem.specs.Checksum.{has_right_sum, stated_length}
 use Rattle.zk_mem.specs.Header.{header_of}
 use Rattle.zk_mem.specs.Map.{MemoryMap}
@@ -13,7 +14,11 @@ use Rattle.zk_code.specs.Grammar.{IsInstruction}
 use Rattle.zk_code.specs.Reach.{IsReached}
 use Rattle.zk_inspect.specs.declared.check.finding.Finding.{Finding}
 use Rattle.zk_inspect.specs.declared.check.finding.Number.{Number}
-use Rattle.zk_inspect.specs.declared.check.finding.Number.TheVariants.{Checksum, Length, DictionaryOrder, DictionaryExtent, ObjectLinks, ChainWithARepeat, PropertyList, TextPastTheEnd, NestedAbbreviation, UndecodableCode, TargetOutOfTheStory, CodeBelowTheStaticBase}
+use Rattle.zk_inspect.specs.declared.check.finding.Number.TheVariants.{Checksum, Length, DictionaryOrder}
+use Rattle.zk_inspect.specs.declared.check.finding.Number.TheVariants.{DictionaryExtent, ObjectLinks, ChainWithARepeat}
+use Rattle.zk_inspect.specs.declared.check.finding.Number.TheVariants.{PropertyList, TextPastTheEnd, NestedAbbreviation}
+use Rattle.zk_inspect.specs.declared.check.finding.Number.TheVariants.{UndecodableCode, TargetOutOfTheStory}
+use Rattle.zk_inspect.specs.declared.check.finding.Number.TheVariants.{CodeBelowTheStaticBase}
 use Rattle.zk_inspect.specs.Keys.{IsFirstFall}
 use Rattle.zk_inspect.specs.Lists.{IsListOf}
 use Rattle.zk_inspect.specs.Objects.{HasObject, LeadsPast, LacksList}
@@ -63,7 +68,8 @@ Finds m CodeBelowTheStaticBase a = IsLowCode m a
 
 -- the numbers in their order
 abbrev pub numbers : List Number
-numbers = Checksum ∷ Length ∷ DictionaryOrder ∷ DictionaryExtent ∷ ObjectLinks ∷ ChainWithARepeat ∷ PropertyList ∷ TextPastTheEnd ∷ NestedAbbreviation ∷ UndecodableCode ∷ TargetOutOfTheStory ∷ CodeBelowTheStaticBase ∷ []
+numbers = Checksum ∷ Length ∷ DictionaryOrder ∷ DictionaryExtent ∷ ObjectLinks ∷ ChainWithARepeat ∷ PropertyList
+    ∷ TextPastTheEnd ∷ NestedAbbreviation ∷ UndecodableCode ∷ TargetOutOfTheStory ∷ CodeBelowTheStaticBase ∷ []
 
 -- a finding
 abbrev pub at_address : Number → ℕ → Finding

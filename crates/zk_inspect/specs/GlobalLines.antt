@@ -24,7 +24,8 @@ global_name n = codes "g" ++ decimal n
 
 -- the line of a global variable: its name, the address of its value, and the value
 unfoldable pub global_line : MemoryMap → ℕ → List ℕ
-global_line m n = global_name n ++ codes " " ++ address_digits (global_place m n) ++ codes " " ++ word_text (word_at m (global_place m n))
+global_line m n = global_name n ++ codes " " ++ address_digits (global_place m n) ++ codes " "
+    ++ word_text (word_at m (global_place m n))
 
 -- each of the 240, where the header names a table
 unfoldable pub global_facts : MemoryMap → List Fact

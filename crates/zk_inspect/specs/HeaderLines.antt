@@ -1,5 +1,6 @@
 -- What a header says, field by field (Standard, section 11.1). What a line looks like is zkit's choice.
-use Rattle.std.specs.Prelude.{ℕ, Bool, true, false, ◌&&◌, List, [], ◌∷◌, ◌++◌, map, length, nat_lt, codes, decimal, if◌then◌else◌}
+use Rattle.std.specs.Prelude.{ℕ, Bool, true, false, ◌&&◌, List, [], ◌∷◌, ◌++◌, map, length, nat_lt, codes, decimal}
+use Rattle.std.specs.Prelude.{if◌then◌else◌}
 use Rattle.zk_mem.specs.Checksum.{has_right_sum, stated_length}
 use Rattle.zk_mem.specs.Header.{header_of}
 use Rattle.zk_mem.specs.Map.{MemoryMap}
@@ -9,7 +10,8 @@ use Rattle.zk_inspect.specs.declared.fact.Fact.TheVariants as fact
 use Rattle.zk_inspect.specs.declared.fact.Field.{Field}
 use Rattle.zk_inspect.specs.declared.fact.Field.TheVariants as field
 use Rattle.zk_inspect.specs.declared.listing.header_lines.Value.{Value}
-use Rattle.zk_inspect.specs.declared.listing.header_lines.Value.TheVariants.{Number, Address, Word, Byte, Serial, Checksum}
+use Rattle.zk_inspect.specs.declared.listing.header_lines.Value.TheVariants.{Number, Address, Word, Byte, Serial}
+use Rattle.zk_inspect.specs.declared.listing.header_lines.Value.TheVariants.{Checksum}
 use Rattle.zk_term.specs.Numbers.{address_digits, word_digits, byte_digits}
 
 -- a byte of ASCII that is seen, and a question mark (63) in place of others
@@ -61,7 +63,8 @@ field_line m f = field_name f ++ codes " " ++ value_text (value_of m f)
 -- the fields that every version has
 abbrev pub common_fields : List Field
 common_fields =
-    field.Version ∷ field.Release ∷ field.Serial ∷ field.Length ∷ field.File ∷ field.Checksum ∷ field.Start ∷ field.High ∷ field.Static
+    field.Version ∷ field.Release ∷ field.Serial ∷ field.Length ∷ field.File ∷ field.Checksum ∷ field.Start
+    ∷ field.High ∷ field.Static
     ∷ field.Dictionary ∷ field.Objects ∷ field.Globals ∷ field.Abbreviations ∷ field.Flags1 ∷ field.Flags2 ∷ []
 
 -- the fields that versions from 5 on have

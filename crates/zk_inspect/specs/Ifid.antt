@@ -1,5 +1,6 @@
 -- What catalogues name a story by, its IFID (Treaty of Babel, the section on the Z-machine).
-use Rattle.std.specs.Prelude.{◌==◌, ◌-◌, ℕ, Bool, ◌&&◌, ◌||◌, ◌+◌, List, [], ◌∷◌, ◌++◌, Option, Some, None, take, drop, map, not, option_map, nat_le, nat_lt, codes, decimal, slice_index, if◌then◌else◌}
+use Rattle.std.specs.Prelude.{◌==◌, ◌-◌, ℕ, Bool, ◌&&◌, ◌||◌, ◌+◌, List, [], ◌∷◌, ◌++◌, Option, Some, None, take, drop}
+use Rattle.std.specs.Prelude.{map, not, option_map, nat_le, nat_lt, codes, decimal, slice_index, if◌then◌else◌}
 use Rattle.std.specs.List.{starts_with}
 use Rattle.std.specs.Str.{bytes_eq}
 use Rattle.zk_mem.specs.Header.{header_of}
@@ -26,7 +27,8 @@ unfoldable pub name_in_front : List ℕ → Option (List ℕ)
 name_in_front bytes =
     let after = drop 7 bytes in
     let n = name_length after in
-    if starts_with ◌==◌ bytes (codes "UUID://") && (nat_le 8 n && (nat_le n 63 && starts_with ◌==◌ (drop n after) (codes "//")))
+    if starts_with ◌==◌ bytes (codes "UUID://") &&
+    (nat_le 8 n && (nat_le n 63 && starts_with ◌==◌ (drop n after) (codes "//")))
     then Some (take n after)
     else None
 
@@ -42,7 +44,8 @@ first_name (b ∷ bs) = first_or (name_in_front (b ∷ bs)) (first_name bs)
 -- a serial number is of a year before 2006, when no story named itself: it begins with 8 or 9, or with 00 to 05
 abbrev pub is_early : List ℕ → Bool
 is_early serial =
-    slice_index serial 0 == 56 || (slice_index serial 0 == 57 || (slice_index serial 0 == 48 && (nat_le 48 (slice_index serial 1) && nat_le (slice_index serial 1) 53)))
+    slice_index serial 0 == 56 || (slice_index serial 0 == 57 ||
+    (slice_index serial 0 == 48 && (nat_le 48 (slice_index serial 1) && nat_le (slice_index serial 1) 53)))
 
 -- a letter as a capital
 abbrev pub capital_letter : ℕ → ℕ
@@ -61,7 +64,8 @@ serial_named serial = map named_byte serial
 
 -- the checksum is said where the serial number begins with a digit other than 8 (56), and is not all zeros
 abbrev pub names_sum : List ℕ → Bool
-names_sum serial = is_digit (slice_index serial 0) && (not (slice_index serial 0 == 56) && not (bytes_eq serial (codes "000000")))
+names_sum serial =
+    is_digit (slice_index serial 0) && (not (slice_index serial 0 == 56) && not (bytes_eq serial (codes "000000")))
 
 -- a word by four digits, with capitals
 abbrev pub capital_digits : ℕ → List ℕ

@@ -1,5 +1,6 @@
 -- The order of a dictionary's entries (Standard, section 13.5).
-use Rattle.std.specs.Prelude.{◌≡◌, ℕ, ◌+◌, ◌<◌, Bool, true, false, ◌&&◌, ◌||◌, ◌==◌, List, [], ◌∷◌, take, drop, nat_lt, Ok}
+use Rattle.std.specs.Prelude.{◌≡◌, ℕ, ◌+◌, ◌<◌, Bool, true, false, ◌&&◌, ◌||◌, ◌==◌, List, [], ◌∷◌, take, drop, nat_lt}
+use Rattle.std.specs.Prelude.{Ok}
 use Rattle.zk_mem.specs.Map.{MemoryMap}
 use Rattle.zk_mem.specs.Header.{header_of}
 use Rattle.zk_tables.specs.declared.dictionary.Dictionary.{Dictionary}
@@ -19,7 +20,8 @@ key_in m d i = take (key_length m.version) (drop (entry_start d i) m.bytes)
 abbrev pub Falls : MemoryMap → Dictionary → ℕ → Type 0
 Falls m d i = (i + 1 < d.entries) × (comes_before (key_in m d i) (key_in m d (i + 1)) ≡ false)
 
--- the first entry, at an address, that does not come after the one before it, in a dictionary that says that it is sorted
+-- the first entry, at an address, that does not come after the one before it, in a dictionary that says that it is
+-- sorted
 pub record IsFirstFall (m : MemoryMap) (a : ℕ) : Type 0 where
   pub dictionary : Dictionary
   pub index : ℕ

@@ -7,7 +7,6 @@ pub mod LyingTexts
 pub mod Search
 pub mod Listing
 pub mod Notes
-pub mod Written
 pub mod Quoted
 pub mod Beginnings
 pub mod Objects
@@ -26,7 +25,6 @@ pub mod AlphabetLines
 pub mod ExtensionLines
 pub mod PropertyBytes
 pub mod Ifid
-pub mod NameExamples
 pub mod MapLines
 pub mod AbbreviationLines
 pub mod ObjectLines
@@ -37,8 +35,4 @@ pub mod Lines
 pub mod SectionFacts
 pub mod CodeFacts
 pub mod FindingLaws
-pub mod Examples
-pub mod ListExamples
-pub mod CheckExamples
-pub mod LowExamples
-pub mod NoteExamples
+pub mod guards

@@ -58,34 +58,47 @@ fact_line notes m (fact.Finding f) = finding_line f
 unfoldable pub lines_of : Bool → MemoryMap → List Fact → List ℕ
 lines_of notes m = flat_map (λ f. fact_line notes m f ++ codes "\n")
 
-pub lines_none : {S : Type 0} (wrote : S → S → List ℕ → Type 0) (x : S) (n : Bool) (m : MemoryMap) → wrote x x [] → wrote x x (lines_of n m [])
+pub lines_none : {S : Type 0} (wrote : S → S → List ℕ → Type 0) (x : S) (n : Bool) (m : MemoryMap) → wrote x x []
+    → wrote x x (lines_of n m [])
 unfolding lines_of
 lines_none {S} wrote x n m h = h
 
 -- a line was written, and its end
-pub lines_one : {S : Type 0} (wrote : S → S → List ℕ → Type 0) (twice : (x y z : S) (s t : List ℕ) → wrote x y s → wrote y z t → wrote x z (s ++ t)) (x y z : S) (n : Bool) (m : MemoryMap) (f : Fact)
+pub lines_one : {S : Type 0} (wrote : S → S → List ℕ → Type 0) (twice : (x y z : S) (s t : List ℕ) → wrote x y s
+    → wrote y z t → wrote x z (s ++ t)) (x y z : S) (n : Bool) (m : MemoryMap) (f : Fact)
     → wrote x y (fact_line n m f) → wrote y z (codes "\n") → wrote x z (lines_of n m (f ∷ []))
 unfolding lines_of
-lines_one {S} wrote twice x y z n m f h g = rw (append-nil (fact_line n m f ++ codes "\n")) (twice x y z (fact_line n m f) (codes "\n") h g)
+lines_one {S} wrote twice x y z n m f h g =
+    rw (append-nil (fact_line n m f ++ codes "\n")) (twice x y z (fact_line n m f) (codes "\n") h g)
 
 -- lines were written after others
-pub lines_then : {S : Type 0} (wrote : S → S → List ℕ → Type 0) (twice : (x y z : S) (s t : List ℕ) → wrote x y s → wrote y z t → wrote x z (s ++ t)) (x y z : S) (n o : Bool) (m k : MemoryMap) (fs gs : List Fact) → o ≡ n → k ≡ m
+pub lines_then : {S : Type 0} (wrote : S → S → List ℕ → Type 0) (twice : (x y z : S) (s t : List ℕ) → wrote x y s
+    → wrote y z t → wrote x z (s ++ t)) (x y z : S) (n o : Bool) (m k : MemoryMap) (fs gs : List Fact) → o ≡ n → k ≡ m
     → wrote x y (lines_of n m fs) → wrote y z (lines_of o k gs) → wrote x z (lines_of n m (fs ++ gs))
 unfolding lines_of
 lines_then {S} wrote twice x y z n o m k fs gs notes memory h g =
-    rw (flat_map-append (λ f. fact_line n m f ++ codes "\n") fs gs) (twice x y z (lines_of n m fs) (lines_of n m gs) h (subst (λ (b : Bool). wrote y z (lines_of b m gs)) notes (subst (λ (w : MemoryMap). wrote y z (lines_of o w gs)) memory g)))
+    rw (flat_map-append (λ f. fact_line n m f ++ codes "\n") fs gs)
+    (twice x y z (lines_of n m fs) (lines_of n m gs) h
+    (subst (λ (b : Bool). wrote y z (lines_of b m gs)) notes
+    (subst (λ (w : MemoryMap). wrote y z (lines_of o w gs)) memory g)))
 
 -- a text is the lines of facts of which something holds
 abbrev pub AreLines : (List Fact → Type 0) → Bool → MemoryMap → List ℕ → Type 0
 AreLines P notes m text = (facts : List Fact) × P facts × (text ≡ lines_of notes m facts)
 
 -- lines were written, by whether the listing was refused: those of all facts that are wanted, or of some
-abbrev pub WroteLines : {S : Type 0} → Bool → (All Few : List Fact → Type 0) → Bool → MemoryMap → (S → S → List ℕ → Type 0) → S → S → Type 0
+abbrev pub WroteLines : {S : Type 0} → Bool → (All Few : List Fact → Type 0) → Bool → MemoryMap
+    → (S → S → List ℕ → Type 0) → S → S → Type 0
 WroteLines {S} false All Few notes m wrote old new = WroteSome (AreLines All notes m) wrote old new
 WroteLines {S} true All Few notes m wrote old new = WroteSome (AreLines Few notes m) wrote old new
 
 -- where each fact was written as its line
-pub lines_given : {S W : Type 0} (b : Bool) (All Few : List Fact → Type 0) (notes : Bool) (m : MemoryMap) (gave : S → S → List Fact → Type 0) (wrote : W → W → List ℕ → Type 0) (x y : S) (old new : W) → GaveBy b All Few gave x y
-    → ((facts : List Fact) → gave x y facts → wrote old new (lines_of notes m facts)) → WroteLines b All Few notes m wrote old new
-lines_given {S} {W} false All Few notes m gave wrote x y old new h f = record { text = lines_of notes m h.facts; is = (h.facts, h.is, refl); given = f h.facts h.given }
-lines_given {S} {W} true All Few notes m gave wrote x y old new h f = record { text = lines_of notes m h.facts; is = (h.facts, h.is, refl); given = f h.facts h.given }
+pub lines_given : {S W : Type 0} (b : Bool) (All Few : List Fact → Type 0) (notes : Bool) (m : MemoryMap)
+    (gave : S → S → List Fact → Type 0) (wrote : W → W → List ℕ → Type 0) (x y : S) (old new : W)
+    → GaveBy b All Few gave x y
+    → ((facts : List Fact) → gave x y facts → wrote old new (lines_of notes m facts))
+    → WroteLines b All Few notes m wrote old new
+lines_given {S} {W} false All Few notes m gave wrote x y old new h f =
+    record { text = lines_of notes m h.facts; is = (h.facts, h.is, refl); given = f h.facts h.given }
+lines_given {S} {W} true All Few notes m gave wrote x y old new h f =
+    record { text = lines_of notes m h.facts; is = (h.facts, h.is, refl); given = f h.facts h.given }

@@ -1,6 +1,7 @@
--- The lines of a disassembly, by the names and operands of the Standard's sections 4, 14 and 15. What a line looks like is
--- zkit's choice.
-use Rattle.std.specs.Prelude.{ℕ, ◌-◌, ◌==◌, Bool, true, false, List, [], ◌∷◌, ◌++◌, map, Option, Some, None, Result, Ok, Err, nat_lt, unwrap_or, get_or, codes, decimal, encode_utf8_all, if◌then◌else◌}
+-- The lines of a disassembly, by the names and operands of the Standard's sections 4, 14 and 15. What a line looks like
+-- is zkit's choice.
+use Rattle.std.specs.Prelude.{ℕ, ◌-◌, ◌==◌, Bool, true, false, List, [], ◌∷◌, ◌++◌, map, Option, Some, None, Result, Ok}
+use Rattle.std.specs.Prelude.{Err, nat_lt, unwrap_or, get_or, codes, decimal, encode_utf8_all, if◌then◌else◌}
 use Rattle.std.specs.List.{flat_map}
 use Rattle.zk_mem.specs.declared.fault.Fault.{Fault}
 use Rattle.zk_mem.specs.Faults.{fault_number}
@@ -117,7 +118,8 @@ text_text m (Some a) = codes " " ++ units_text m (text_units m a)
 -- an instruction: its name, operands, store variable, branch and text
 unfoldable pub instruction_text : MemoryMap → Instr → List ℕ
 instruction_text m i =
-    name_of m.version i.opcode ++ operands_text m i i.operands ++ store_text i.store ++ branch_text i.branch ++ text_text m i.text
+    name_of m.version i.opcode ++ operands_text m i i.operands ++ store_text i.store ++ branch_text i.branch
+    ++ text_text m i.text
 
 -- an instruction, or a question mark where there is none
 abbrev pub found_text : MemoryMap → Result Instr Fault → List ℕ

@@ -1,6 +1,7 @@
--- The texts that lie in a story one after another, and their lines (Standard, sections 1.2.3, 3.2 and 15). What a line looks like
--- is zkit's choice.
-use Rattle.std.specs.Prelude.{◌≡◌, ◌⊎◌, ◌<◌, ℕ, ◌-◌, ◌/◌, length, get_or, Bool, true, false, List, [], ◌++◌, map, Option, Some, None, codes, if◌then◌else◌}
+-- The texts that lie in a story one after another, and their lines (Standard, sections 1.2.3, 3.2 and 15). What a line
+-- looks like is zkit's choice.
+use Rattle.std.specs.Prelude.{◌≡◌, ◌⊎◌, ◌<◌, ℕ, ◌-◌, ◌/◌, length, get_or, Bool, true, false, List, [], ◌++◌, map}
+use Rattle.std.specs.Prelude.{Option, Some, None, codes, if◌then◌else◌}
 use Rattle.std.specs.List.{Contains}
 use Rattle.zk_mem.specs.Header.{unit_length}
 use Rattle.zk_mem.specs.Map.{MemoryMap}
@@ -66,9 +67,11 @@ pub record IsAfterLast (m : MemoryMap) (routines : List ℕ) (t : ℕ) : Type 0 
 abbrev pub IsNextText : MemoryMap → ℕ → ℕ → Type 0
 IsNextText m t n = (e : ℕ) × (text_end_at m t ≡ Some e) × (n ≡ next_packed m e) × IsText m n
 
--- a text lies in a story with some code: an instruction prints it, it stands after the last routine, or after one that does
+-- a text lies in a story with some code: an instruction prints it, it stands after the last routine, or after one that
+-- does
 abbrev pub LiesText : MemoryMap → Code → ℕ → Type 0
-LiesText m code = IsAmong (λ t. IsText m t × (IsPrintedBy m code.addresses t ⊎ IsAfterLast m code.routines t)) (IsNextText m)
+LiesText m code =
+    IsAmong (λ t. IsText m t × (IsPrintedBy m code.addresses t ⊎ IsAfterLast m code.routines t)) (IsNextText m)
 
 -- the packed address of a byte address, as a constant (section 1.2.3)
 unfoldable pub packed_constant : MemoryMap → ℕ → List ℕ

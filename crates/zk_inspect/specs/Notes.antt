@@ -1,6 +1,7 @@
--- Notes on what the constants and the global variables of an instruction stand for (Standard, sections 4.2, 6.2 and 15). What
--- a note looks like is zkit's choice.
-use Rattle.std.specs.Prelude.{ℕ, ◌+◌, ◌==◌, ◌||◌, ◌&&◌, Bool, false, List, [], ◌∷◌, ◌++◌, length, take, Option, Some, None, Result, Ok, Err, codes, decimal, nat_le, is_some, if◌then◌else◌}
+-- Notes on what the constants and the global variables of an instruction stand for (Standard, sections 4.2, 6.2 and
+-- 15). What a note looks like is zkit's choice.
+use Rattle.std.specs.Prelude.{ℕ, ◌+◌, ◌==◌, ◌||◌, ◌&&◌, Bool, false, List, [], ◌∷◌, ◌++◌, length, take, Option, Some}
+use Rattle.std.specs.Prelude.{None, Result, Ok, Err, codes, decimal, nat_le, is_some, if◌then◌else◌}
 use Rattle.std.specs.List.{flat_map, list_any, range_with_len}
 use Rattle.zk_mem.specs.declared.fault.Fault.{Fault}
 use Rattle.zk_mem.specs.Faults.{fault_number}

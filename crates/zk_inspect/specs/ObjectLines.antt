@@ -1,5 +1,6 @@
 -- What is said of an object (Standard, sections 12.3 and 12.4). What a line looks like is zkit's choice.
-use Rattle.std.specs.Prelude.{◌≡◌, ℕ, Bool, false, List, [], ◌∷◌, ◌++◌, map, Option, Some, None, Result, Ok, Err, codes, decimal}
+use Rattle.std.specs.Prelude.{◌≡◌, ℕ, Bool, false, List, [], ◌∷◌, ◌++◌, map, Option, Some, None, Result, Ok, Err, codes}
+use Rattle.std.specs.Prelude.{decimal}
 use Rattle.std.specs.List.{filter, flat_map, range_with_len}
 use Rattle.zk_mem.specs.declared.fault.Fault.{Fault}
 use Rattle.zk_mem.specs.Faults.{fault_number}

@@ -23,7 +23,8 @@ is_past count (Err f) = false
 
 -- one of an object's links does
 abbrev pub leads_past : MemoryMap → ℕ → ℕ → Bool
-leads_past m count o = is_past count (link_at m (parent_of o)) || is_past count (link_at m (sibling_of o)) || is_past count (link_at m (child_of o))
+leads_past m count o = is_past count (link_at m (parent_of o)) || is_past count (link_at m (sibling_of o)) ||
+    is_past count (link_at m (child_of o))
 
 -- a tree is bad
 abbrev pub is_bad_tree : {A : Type 0} → Result A Fault → Bool

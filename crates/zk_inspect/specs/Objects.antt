@@ -9,8 +9,8 @@ use Rattle.zk_tables.specs.Links.{link_at, parent_of, sibling_of, child_of}
 use Rattle.zk_tables.specs.Properties.{list_of, table_of}
 use Rattle.zk_tables.specs.PropertyList.{LeavesData}
 
--- an object that is listed, with the address of its entry: there is an object table, and the entry lies in data and begins
--- below the property table of each object before it
+-- an object that is listed, with the address of its entry: there is an object table, and the entry lies in data and
+-- begins below the property table of each object before it
 pub record IsListed (m : MemoryMap) (o entry : ℕ) : Type 0 where
   pub tabled : (header_of m.file).objects ≢ 0
   pub stands : entry_of m o ≡ Ok entry
@@ -25,7 +25,8 @@ pub record LeadsPast (m : MemoryMap) (o : ℕ) : Type 0 where
   pub named : ℕ
   pub some : named ≢ 0
   pub past : (entry : ℕ) → IsListed m named entry → ⊥
-  pub names : (link_at m (parent_of o) ≡ Ok named) ⊎ ((link_at m (sibling_of o) ≡ Ok named) ⊎ (link_at m (child_of o) ≡ Ok named))
+  pub names : (link_at m (parent_of o) ≡ Ok named) ⊎ ((link_at m (sibling_of o) ≡ Ok named)
+      ⊎ (link_at m (child_of o) ≡ Ok named))
 
 -- the property list of an object does not lie in data (section 12.4)
 abbrev pub LacksList : MemoryMap → ℕ → Type 0

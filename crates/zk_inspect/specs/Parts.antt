@@ -27,4 +27,5 @@ pub record Adds (m : MemoryMap) (n : Number) (old new : List Finding) : Type 0 w
 -- all findings of some numbers stand after others, one number after another
 pub data AddsAll (m : MemoryMap) : List Number → List Finding → List Finding → Type 0 where
   none : {fs : List Finding} → AddsAll m [] fs fs
-  more : {n : Number} {ns : List Number} {old between new : List Finding} → Adds m n old between → AddsAll m ns between new → AddsAll m (n ∷ ns) old new
+  more : {n : Number} {ns : List Number} {old between new : List Finding} → Adds m n old between
+      → AddsAll m ns between new → AddsAll m (n ∷ ns) old new

@@ -18,7 +18,8 @@ byte_text m a = byte_digits (unwrap_or (cell_at m a) 0)
 -- a property of an object: its number, and the address, the length and the bytes of its data
 unfoldable pub property_line : MemoryMap → ℕ → Property → List ℕ
 property_line m o p =
-    decimal o ++ (codes " " ++ decimal p.number) ++ (codes " " ++ address_digits p.address) ++ (codes " " ++ decimal p.length) ++ codes " "
+    decimal o ++ (codes " " ++ decimal p.number) ++ (codes " " ++ address_digits p.address)
+    ++ (codes " " ++ decimal p.length) ++ codes " "
     ++ flat_map (byte_text m) (range_with_len p.address p.length)
 
 -- why an object has no property list

@@ -37,7 +37,8 @@ pub record IsExpanded (m : MemoryMap) (s : Search) (a : ℕ) : Type 0 where
   pub behind : (b : ℕ) (i : Instr) → IsInstruction m a i b → goes_on i.opcode ≡ true → IsMarked s.marks b
   pub branches : (b c : ℕ) (i : Instr) → IsInstruction m a i b → branch_address i ≡ Some c → IsMarked s.marks c
   pub jumps : (b c : ℕ) (i : Instr) → IsInstruction m a i b → jump_address m i ≡ Some c → IsMarked s.marks c
-  pub calls : (b r c : ℕ) (i : Instr) → IsInstruction m a i b → constant_call m i ≡ Some r → code_start m r ≡ Some c → IsMarked s.routines r × IsMarked s.marks c
+  pub calls : (b r c : ℕ) (i : Instr) → IsInstruction m a i b → constant_call m i ≡ Some r
+      → code_start m r ≡ Some c → IsMarked s.routines r × IsMarked s.marks c
 
 -- the roots were found, and the first so many that were found are expanded
 pub record IsOnItsWay (m : MemoryMap) (from : List ℕ) (s : Search) (done : ℕ) : Type 0 where

@@ -20,5 +20,6 @@ section_name section.Extension = codes "extension"
 -- all sections, in the order in which they are shown
 abbrev pub all_sections : List Section
 all_sections =
-    section.Header ∷ section.Map ∷ section.Abbreviations ∷ section.Dictionary ∷ section.Objects ∷ section.Tree ∷ section.Ifid ∷ section.Strings
+    section.Header ∷ section.Map ∷ section.Abbreviations ∷ section.Dictionary ∷ section.Objects ∷ section.Tree
+    ∷ section.Ifid ∷ section.Strings
     ∷ section.Properties ∷ section.Globals ∷ section.Alphabets ∷ section.Extension ∷ []

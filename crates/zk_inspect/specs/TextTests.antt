@@ -1,5 +1,6 @@
 -- Tests on the texts of a story, and marks on them.
-use Rattle.std.specs.Prelude.{◌≡◌, ◌⊎◌, ◌↔◌, ℕ, ◌*◌, ◌<◌, ◌≤◌, Bool, true, false, ◌&&◌, ◌||◌, List, length, get_or, reverse, Some, Ok, Err}
+use Rattle.std.specs.Prelude.{◌≡◌, ◌⊎◌, ◌↔◌, ℕ, ◌*◌, ◌<◌, ◌≤◌, Bool, true, false, ◌&&◌, ◌||◌, List, length, get_or}
+use Rattle.std.specs.Prelude.{reverse, Some, Ok, Err}
 use Rattle.zk_mem.specs.declared.fault.Fault.{Fault}
 use Rattle.zk_mem.specs.declared.fault.Fault.TheVariants.{BadAddress, TextPastEnd, NestedAbbreviation}
 use Rattle.zk_mem.specs.Map.{MemoryMap, word_at}
@@ -52,7 +53,8 @@ NamesMarked m n marks = (o entry a : ℕ) → o ≤ n → IsListed m o entry →
 
 -- the texts of an instruction are marked
 abbrev pub TextsMarked : MemoryMap → ℕ → List Bool → Type 0
-TextsMarked m a marks = (i : Instr) (b t : ℕ) → IsInstruction m a i b → (i.text ≡ Some t) ⊎ (constant_text m i ≡ Some t) → IsMarked marks t
+TextsMarked m a marks = (i : Instr) (b t : ℕ) → IsInstruction m a i b → (i.text ≡ Some t)
+    ⊎ (constant_text m i ≡ Some t) → IsMarked marks t
 
 -- later marks
 abbrev pub Keeps : List Bool → List Bool → Type 0
@@ -65,7 +67,8 @@ pub record IsTableMarks (m : MemoryMap) (number : ℕ) (texts unread : List Bool
   pub sound : (a : ℕ) → IsMarked texts a → IsAbbreviation m a
   pub whole : (n word : ℕ) → n < number → word_at m (table_place m n) ≡ Ok word → IsMarked texts (2 * word)
   pub unread_sound : (a : ℕ) → IsMarked unread a → IsUnread m a
-  pub unread_whole : (n : ℕ) → n < number → word_at m (table_place m n) ≡ Err BadAddress → IsMarked unread (table_place m n)
+  pub unread_whole : (n : ℕ) → n < number → word_at m (table_place m n) ≡ Err BadAddress
+      → IsMarked unread (table_place m n)
 
 -- the same of the whole table, which there is where the header names one
 pub record AreTableMarks (m : MemoryMap) (texts unread : List Bool) : Type 0 where

@@ -15,8 +15,8 @@ use Rattle.zk_code.specs.Grammar.{IsInstruction}
 use Rattle.zk_code.specs.Reach.{IsReached, first_constant}
 use Rattle.zk_inspect.specs.Objects.{IsListed}
 
--- the byte address of the text that an operation prints, by its operand: `print_addr` has a byte address, `print_paddr` a
--- packed one (section 15)
+-- the byte address of the text that an operation prints, by its operand: `print_addr` has a byte address, `print_paddr`
+-- a packed one (section 15)
 abbrev pub addressed_by : MemoryMap → PrintingOperation → Option ℕ → Option ℕ
 addressed_by m PrintAddr v = v
 addressed_by m PrintPaddr v = option_map (unpacked m.version) v
@@ -36,7 +36,8 @@ constant_text m i = text_named m i.opcode (first_constant i.operands)
 pub data IsPrinted (m : MemoryMap) : ℕ → Type 0 where
   Name : (o entry a : ℕ) → IsListed m o entry → name_of m o ≡ Ok (Some a) → IsPrinted m a
   Inline : (a b text : ℕ) (i : Instr) → IsReached m a → IsInstruction m a i b → i.text ≡ Some text → IsPrinted m text
-  Addressed : (a b text : ℕ) (i : Instr) → IsReached m a → IsInstruction m a i b → constant_text m i ≡ Some text → IsPrinted m text
+  Addressed : (a b text : ℕ) (i : Instr) → IsReached m a → IsInstruction m a i b → constant_text m i ≡ Some text
+      → IsPrinted m text
 
 -- where a word of the table of abbreviations stands (section 3.3)
 abbrev pub table_place : MemoryMap → ℕ → ℕ
@@ -61,4 +62,5 @@ pub record IsUnread (m : MemoryMap) (a : ℕ) : Type 0 where
 
 -- a text at an address has a fault: one that is printed, or one of an abbreviation, which uses none
 abbrev pub HasFault : MemoryMap → Fault → ℕ → Type 0
-HasFault m fault a = (IsPrinted m a × (text_units m a ≡ Err fault)) ⊎ (IsAbbreviation m a × (meaning_at no_abbreviation m a ≡ Err fault))
+HasFault m fault a = (IsPrinted m a × (text_units m a ≡ Err fault))
+    ⊎ (IsAbbreviation m a × (meaning_at no_abbreviation m a ≡ Err fault))

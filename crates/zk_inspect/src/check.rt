@@ -8,7 +8,8 @@ ghost use Rattle.zk_inspect.specs.Findings.{AreFindings, Finds, at_address};
 ghost use Rattle.zk_inspect.specs.Lists.{IsListOf};
 ghost use Rattle.zk_inspect.specs.ObjectTests.{object_number};
 ghost use Rattle.zk_inspect.specs.Parts.{Adds, AddsAll, AreParts};
-ghost use Rattle.zk_inspect.specs.Tests.{branches_out, calls_low, calls_out, code_answer, code_number, instr_is_low, instr_leads_out, is_low, is_outside, is_undecodable, jumps_out, leads_out};
+ghost use Rattle.zk_inspect.specs.Tests.{branches_out, calls_low, calls_out, code_answer, code_number, instr_is_low};
+ghost use Rattle.zk_inspect.specs.Tests.{instr_leads_out, is_low, is_outside, is_undecodable, jumps_out, leads_out};
 
 pub mod finding;
 pub mod finding_lines;
@@ -337,8 +338,8 @@ fn find_all(alloc: Global, memory: &Memory, parts: &Parts) -> Result<Vec<Finding
     Ok(all)
 }
 
-/// What is wrong with a story: each finding once, by number, then by address. Nothing is asked of a table whose word in the
-/// header is 0.
+/// What is wrong with a story: each finding once, by number, then by address. Nothing is asked of a table whose word in
+/// the header is 0.
 ///
 /// Refused for lack of memory alone.
 pub fn check(alloc: Global, memory: &Memory) -> Result<Vec<Finding>, AllocError>

@@ -1,14 +1,29 @@
 // Worked examples of the definitions, which refuse one that is turned together with its body.
 
-ghost use Rattle.zk_inspect.specs.Examples.{AddressesHaveFiveDigits, WordsHaveFourDigits, FindingsOfTables, FindingsOfTextsAndCode, VariablesByNumber, OperandsByType, StoresBehindAnArrow, BranchesBehindAMark, LinesOfOperands, LinesOfBranches, LinesOfVariables, LinesOfJumps, LinesOfTexts, CharactersBetweenQuotes, LinesOfLyingTexts, LinesOfRoutines, RoutinesBehindCode, RoutinesByOrigin, HeadersAreLines, MapsAreInOrder, AbbreviationsAreLines, NoTableNoLines, DictionariesAreLines, KeysAreWords, ObjectsAreLines, ListsPastTheEnd, UndecodableAddresses, LeadingOut, KindsOfFaults, TextsThatFail, RowsAreIndented, RowsAgain, RootsNameNoParent};
-ghost use Rattle.zk_inspect.specs.ListExamples.{FindingsAreLines, AllAbbreviationsAreLines, KeysAreInOrder, KeysBeginEntries, LinksPastTheLast, QuestionsOnObjects, LateObjectsAreLines};
-ghost use Rattle.zk_inspect.specs.CheckExamples.{EntriesAtTables, EntriesBelowTables, LinksLeadPast, NoTableNoObjects, TextsByConstants, WordsAreAddresses, WordsPastTheEnd};
-ghost use Rattle.zk_inspect.specs.NameExamples.{NamesByHeaders, NamesInFiles};
-ghost use Rattle.zk_inspect.specs.NoteExamples.{CallsNameRoutines, ExtensionsAreLines, GlobalsAreLines, GlobalsAreNoted, LongTextsAreShortened, ObjectsAreNoted, PropertiesAreLines, TextsAreNoted, TheThirdAlphabetBeginsLater};
-ghost use Rattle.zk_inspect.specs.LowExamples.{LowInstructions, LowRoutines};
+ghost use Rattle.zk_inspect.specs.guards.Examples.{AddressesHaveFiveDigits, WordsHaveFourDigits, FindingsOfTables};
+ghost use Rattle.zk_inspect.specs.guards.Examples.{FindingsOfTextsAndCode, VariablesByNumber, OperandsByType};
+ghost use Rattle.zk_inspect.specs.guards.Examples.{StoresBehindAnArrow, BranchesBehindAMark, LinesOfOperands};
+ghost use Rattle.zk_inspect.specs.guards.Examples.{LinesOfBranches, LinesOfVariables, LinesOfJumps, LinesOfTexts};
+ghost use Rattle.zk_inspect.specs.guards.Examples.{CharactersBetweenQuotes, LinesOfLyingTexts, LinesOfRoutines};
+ghost use Rattle.zk_inspect.specs.guards.Examples.{RoutinesBehindCode, RoutinesByOrigin, HeadersAreLines};
+ghost use Rattle.zk_inspect.specs.guards.Examples.{MapsAreInOrder, AbbreviationsAreLines, NoTableNoLines};
+ghost use Rattle.zk_inspect.specs.guards.Examples.{DictionariesAreLines, KeysAreWords, ObjectsAreLines};
+ghost use Rattle.zk_inspect.specs.guards.Examples.{ListsPastTheEnd, UndecodableAddresses, LeadingOut, KindsOfFaults};
+ghost use Rattle.zk_inspect.specs.guards.Examples.{TextsThatFail, RowsAreIndented, RowsAgain, RootsNameNoParent};
+ghost use Rattle.zk_inspect.specs.guards.ListExamples.{FindingsAreLines, AllAbbreviationsAreLines, KeysAreInOrder};
+ghost use Rattle.zk_inspect.specs.guards.ListExamples.{KeysBeginEntries, LinksPastTheLast, QuestionsOnObjects};
+ghost use Rattle.zk_inspect.specs.guards.ListExamples.{LateObjectsAreLines};
+ghost use Rattle.zk_inspect.specs.guards.CheckExamples.{EntriesAtTables, EntriesBelowTables, LinksLeadPast};
+ghost use Rattle.zk_inspect.specs.guards.CheckExamples.{NoTableNoObjects, TextsByConstants, WordsAreAddresses};
+ghost use Rattle.zk_inspect.specs.guards.CheckExamples.{WordsPastTheEnd};
+ghost use Rattle.zk_inspect.specs.guards.NameExamples.{NamesByHeaders, NamesInFiles};
+ghost use Rattle.zk_inspect.specs.guards.NoteExamples.{CallsNameRoutines, ExtensionsAreLines, GlobalsAreLines};
+ghost use Rattle.zk_inspect.specs.guards.NoteExamples.{GlobalsAreNoted, LongTextsAreShortened, ObjectsAreNoted};
+ghost use Rattle.zk_inspect.specs.guards.NoteExamples.{PropertiesAreLines, TextsAreNoted, TheThirdAlphabetBeginsLater};
+ghost use Rattle.zk_inspect.specs.guards.LowExamples.{LowInstructions, LowRoutines};
 
 /// Addresses, words and bytes by their digits.
-#[tactic(auto, unfolding(zk_term::specs::Numbers::hex_digits, zk_term::specs::Numbers::address_digits, zk_term::specs::Numbers::word_digits, zk_term::specs::Numbers::byte_digits))]
+#[tactic(auto, unfolding(crate::proofs::guards::Opened::examples))]
 pub fn numbers_by_example()
     ensures addresses_have_five_digits { AddressesHaveFiveDigits }
     ensures words_have_four_digits { WordsHaveFourDigits }
@@ -58,7 +73,7 @@ pub fn headers_by_example()
 {}
 
 /// What catalogues name a story by (Treaty of Babel).
-#[tactic(auto, unfolding(crate::specs::Ifid::first_name, crate::specs::Ifid::name_in_front, crate::specs::Ifid::name_length, crate::specs::Ifid::header_name, crate::specs::Ifid::ifid_line, zk_term::specs::Numbers::hex_digits, zk_term::specs::Numbers::word_digits))]
+#[tactic(auto, unfolding(crate::proofs::guards::Opened::examples))]
 pub fn names_by_example()
     ensures names_in_files { NamesInFiles }
     ensures names_by_headers { NamesByHeaders }

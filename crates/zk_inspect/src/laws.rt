@@ -9,14 +9,14 @@ pub fn one_code()
     ensures { OneCode }
 {}
 
-/// Where no address and no routine is named, the code is what is reached from the first instruction, and the routines that are
-/// called there.
+/// Where no address and no routine is named, the code is what is reached from the first instruction, and the routines
+/// that are called there.
 pub fn nothing_named_adds_nothing()
     ensures { NothingNamedAddsNothing }
 {}
 
-/// The findings of a story are all that is wrong with it, each once, by number and then by address; a story has none exactly
-/// where nothing is wrong.
+/// The findings of a story are all that is wrong with it, each once, by number and then by address; a story has none
+/// exactly where nothing is wrong.
 pub fn findings_are_all()
     ensures { FindingsAreAll }
 {}

@@ -41,18 +41,23 @@ use zk_mem::memory::Memory;
 
 /// Gives the facts of a section, in the order of their numbers or addresses:
 ///
-/// - of the header each field (Z-Machine Standards Document 1.1, section 11.1), with the file's length, and whether the checksum
+/// - of the header each field (Z-Machine Standards Document 1.1, section 11.1), with the file's length, and whether the
+/// checksum
 ///   is right;
 /// - of the map where the parts of the story begin by its header; those of one address stay in the order abbreviations,
 ///   globals, objects, dictionary, static, high, start (section 1.1);
 /// - the 96 abbreviations (section 3.3), where the header names a table of them;
 /// - of the dictionary that the header names the separators, the size and each word (section 13), or why there is none;
-/// - the objects from 1 on, up to the first whose entry does not lie in data, or does not begin below the property table of
+/// - the objects from 1 on, up to the first whose entry does not lie in data, or does not begin below the property
+/// table of
 ///   each object before it (section 12.3); there are none where the header names no table;
-/// - of the tree each object that has no parent, and below it its children; an object that was listed before is not followed, nor
+/// - of the tree each object that has no parent, and below it its children; an object that was listed before is not
+/// followed, nor
 ///   is a link to an object that is not listed;
-/// - what catalogues name the story by (Treaty of Babel): the first name in its file, between `UUID://` and `//`, of 8 to 63
-///   letters, digits and hyphens; or else `ZCODE`, the release, the serial number and, for a serial number of 1990 or later,
+/// - what catalogues name the story by (Treaty of Babel): the first name in its file, between `UUID://` and `//`, of 8
+/// to 63
+/// letters, digits and hyphens; or else `ZCODE`, the release, the serial number and, for a serial number of 1990 or
+/// later,
 ///   the checksum;
 /// - the texts that lie in the story by its code and the routines that lie beside;
 /// - each property of each object, with its data, or why an object has no list of them (section 12.4);
@@ -87,8 +92,8 @@ pub fn list_section<F: FactWriter>(
     Ok(())
 }
 
-/// Gives the code of a story, as `reach_named` has it: what stands at each address, ascending, and then each routine. It gives
-/// nothing where it is refused, for lack of memory.
+/// Gives the code of a story, as `reach_named` has it: what stands at each address, ascending, and then each routine.
+/// It gives nothing where it is refused, for lack of memory.
 pub fn list_reached<F: FactWriter>(
     alloc: Global,
     memory: &Memory,
@@ -104,8 +109,8 @@ pub fn list_reached<F: FactWriter>(
     Ok(())
 }
 
-/// Gives the code that lies in a story, as `find_whole` has it: what stands at each address, ascending, and then each routine,
-/// with whether it is reached. It gives nothing where it is refused, for lack of memory.
+/// Gives the code that lies in a story, as `find_whole` has it: what stands at each address, ascending, and then each
+/// routine, with whether it is reached. It gives nothing where it is refused, for lack of memory.
 pub fn list_whole<F: FactWriter>(
     alloc: Global,
     memory: &Memory,

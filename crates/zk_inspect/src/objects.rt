@@ -6,7 +6,8 @@ ghost use Rattle.zk_tables.specs.Layout.{entry_of};
 ghost use Rattle.zk_tables.specs.Chain.{children_of};
 ghost use Rattle.zk_tables.specs.Properties.{properties_of};
 ghost use Rattle.zk_inspect.specs.Lists.{IsListOf};
-ghost use Rattle.zk_inspect.specs.ObjectTests.{AreObjects, IsAnswered, answer, is_bad_property, is_bad_tree, is_past, leads_past};
+ghost use Rattle.zk_inspect.specs.ObjectTests.{AreObjects, IsAnswered, answer, is_bad_property, is_bad_tree, is_past};
+ghost use Rattle.zk_inspect.specs.ObjectTests.{leads_past};
 ghost use Rattle.zk_inspect.specs.Objects.{IsListed, lower_of};
 
 use crate::check::property_lists::mark_lists;
@@ -29,8 +30,8 @@ fn lower_table(memory: &Memory, object: u16, lowest: u32) -> u32
     }
 }
 
-/// How many objects are listed: they are counted from 1 on, up to the first whose entry does not lie in data, or does not
-/// begin below the property table of each object before it. There are none where the header names no object table.
+/// How many objects are listed: they are counted from 1 on, up to the first whose entry does not lie in data, or does
+/// not begin below the property table of each object before it. There are none where the header names no object table.
 pub(crate) fn count_objects(memory: &Memory) -> u16
     ensures listed { (o entry : ℕ)
         → IsListed memory.now o entry ↔ ((o ≤ result) × (entry_of memory.now o ≡ Ok entry)) }

@@ -1,6 +1,7 @@
 // The code that a run can come to.
 
-ghost use Rattle.std.specs.Prelude.{◌≡◌, ◌↔◌, ◌≤◌, ◌<◌, ◌+◌, ◌^◌, ◌⊎◌, ℕ, [], ◌∷◌, true, IfOk, OnOk, Some, Ok, length, max};
+ghost use Rattle.std.specs.Prelude.{◌≡◌, ◌↔◌, ◌≤◌, ◌<◌, ◌+◌, ◌^◌, ◌⊎◌, ℕ, [], ◌∷◌, true, IfOk, OnOk, Some, Ok, length};
+ghost use Rattle.std.specs.Prelude.{max};
 ghost use Rattle.std.specs.List.{Contains};
 ghost use Rattle.zk_code.specs.Reach.{IsReachedFrom, branch_address, constant_call, goes_on, jump_address};
 ghost use Rattle.zk_code.specs.Routines.{code_start};
@@ -311,10 +312,11 @@ pub(crate) fn mark_routines(marks: &mut AddressSet, memory: &Memory, routines: &
     }
 }
 
-/// The code that is reached from some addresses: these and, from each instruction at one that is reached, what stands after
-/// it unless it returns, jumps, throws, quits or restarts, where its branch or its jump by a constant leads inside the story,
-/// and the first instruction of a routine that it calls by a constant other than 0; and these routines, and those that are
-/// named (Z-Machine Standards Document 1.1, sections 4.7, 5 and 15). Code that only computed addresses lead to is not found.
+/// The code that is reached from some addresses: these and, from each instruction at one that is reached, what stands
+/// after it unless it returns, jumps, throws, quits or restarts, where its branch or its jump by a constant leads
+/// inside the story, and the first instruction of a routine that it calls by a constant other than 0; and these
+/// routines, and those that are named (Z-Machine Standards Document 1.1, sections 4.7, 5 and 15). Code that only
+/// computed addresses lead to is not found.
 ///
 /// Refused for lack of memory alone.
 pub(crate) fn reach_from(
@@ -337,7 +339,8 @@ pub(crate) fn reach_from(
     })
 }
 
-/// The reachable code of a story: what is reached from its first instruction (Z-Machine Standards Document 1.1, section 5.5).
+/// The reachable code of a story: what is reached from its first instruction (Z-Machine Standards Document 1.1, section
+/// 5.5).
 ///
 /// Refused for lack of memory alone.
 pub fn reach(alloc: Global, memory: &Memory) -> Result<Code, AllocError>

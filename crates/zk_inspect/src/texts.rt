@@ -1,13 +1,16 @@
 // The texts that lie in a story.
 
-ghost use Rattle.std.specs.Prelude.{◌≡◌, ◌≢◌, ◌⊎◌, ◌↔◌, ◌≤◌, ◌<◌, ◌+◌, ◌++◌, ◌/◌, ℕ, [], true, None, Some, IfOk, IfSome, is_err, length, map};
+ghost use Rattle.std.specs.Prelude.{◌≡◌, ◌≢◌, ◌⊎◌, ◌↔◌, ◌≤◌, ◌<◌, ◌+◌, ◌++◌, ◌/◌, ℕ, [], true, None, Some, IfOk};
+ghost use Rattle.std.specs.Prelude.{IfSome, is_err, length, map};
 ghost use Rattle.std.specs.List.{Contains};
 ghost use Rattle.zk_mem.specs.Header.{unit_length};
 ghost use Rattle.zk_mem.specs.Words.{text_end_at};
 ghost use Rattle.zk_code.specs.Ends.{KnowsEnds};
 ghost use Rattle.zk_inspect.specs.Facts.{AreNone, GaveBy};
 ghost use Rattle.zk_inspect.specs.Lists.{IsAmong, IsListOf, IsMarked};
-ghost use Rattle.zk_inspect.specs.LyingTexts.{AreTextFacts, IsAfterLast, IsNextText, IsPrintedBy, IsText, LiesText, PrintsText, packed_constant, packed_text, prints_packed, takes_packed, text_line};
+ghost use Rattle.zk_inspect.specs.LyingTexts.{AreTextFacts, IsAfterLast, IsNextText, IsPrintedBy, IsText, LiesText};
+ghost use Rattle.zk_inspect.specs.LyingTexts.{PrintsText, packed_constant, packed_text, prints_packed, takes_packed};
+ghost use Rattle.zk_inspect.specs.LyingTexts.{text_line};
 ghost use Rattle.zk_term.specs.Numbers.{word_digits};
 
 use crate::check::texts::constant_text;
@@ -139,9 +142,10 @@ fn mark_all_next_texts(marks: &mut AddressSet, memory: &Memory)
     }
 }
 
-/// The texts that lie in a story with some code, ascending: those that the code prints by packed addresses that are constants,
-/// the one after its last routine, and with each text the one after it; a text after another begins at the least packed address at
-/// or after its end (Z-Machine Standards Document 1.1, sections 1.2.3, 3.2 and 15). That a text lies there says nothing about runs.
+/// The texts that lie in a story with some code, ascending: those that the code prints by packed addresses that are
+/// constants, the one after its last routine, and with each text the one after it; a text after another begins at the
+/// least packed address at or after its end (Z-Machine Standards Document 1.1, sections 1.2.3, 3.2 and 15). That a text
+/// lies there says nothing about runs.
 ///
 /// Refused for lack of memory alone.
 pub fn find_texts(alloc: Global, memory: &Memory, code: &Code) -> Result<Addresses, AllocError>
@@ -173,8 +177,8 @@ fn write_packed<P: LineWriter>(writer: &mut P, memory: &Memory, address: u32)
     write_texts(writer, &[b"#", shown]);
 }
 
-/// Writes the line of a text: its byte address, its packed address as a constant, and what it prints, between quotes, or `!` and
-/// the fault where it prints nothing.
+/// Writes the line of a text: its byte address, its packed address as a constant, and what it prints, between quotes,
+/// or `!` and the fault where it prints nothing.
 pub(crate) fn write_text_line<P: LineWriter>(writer: &mut P, memory: &Memory, address: u32)
     ensures { P.wrote writer.old writer.new (text_line memory.now address) }
 {

@@ -62,9 +62,10 @@ fn roots_of(
     Ok(roots)
 }
 
-/// The code of a story, as `reach` has it, where the byte addresses of further instructions and of routines are named: what is
-/// reached from the first instruction, from those, and from the first instructions of these; and these routines, and those
-/// that are called there by a constant. An address outside the story is left out, and so is that of a routine where none is.
+/// The code of a story, as `reach` has it, where the byte addresses of further instructions and of routines are named:
+/// what is reached from the first instruction, from those, and from the first instructions of these; and these
+/// routines, and those that are called there by a constant. An address outside the story is left out, and so is that of
+/// a routine where none is.
 ///
 /// Refused for lack of memory alone.
 pub fn reach_named(
@@ -152,9 +153,10 @@ fn marks_of(alloc: Global, memory: &Memory, routines: &[u32]) -> Result<AddressS
     Ok(marks)
 }
 
-/// The code that lies in a story, where byte addresses of instructions and of routines are named: the code that is reached, as
-/// `reach_named` has it, from these and from the routines that lie beside those. A routine lies beside another one that stands
-/// at the least packed address at or after its end, or after the code there that nothing leads to (Z-Machine Standards Document
+/// The code that lies in a story, where byte addresses of instructions and of routines are named: the code that is
+/// reached, as `reach_named` has it, from these and from the routines that lie beside those. A routine lies beside
+/// another one that stands at the least packed address at or after its end, or after the code there that nothing leads
+/// to (Z-Machine Standards Document
 /// 1.1, sections 1.2.3 and 5). That a routine lies there says nothing about runs.
 ///
 /// Refused for lack of memory alone.

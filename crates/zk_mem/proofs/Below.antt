@@ -32,7 +32,8 @@ same_below f g n h k low =
     grind (arith, nat_tests)
 
 -- from a number on
-pub same_between : (f g : ℕ → ℕ) (from n : ℕ) → all_below (λ k. f (from + k) == g (from + k)) n ≡ true → (k : ℕ) → from ≤ k → k < from + n → f k ≡ g k
+pub same_between : (f g : ℕ → ℕ) (from n : ℕ) → all_below (λ k. f (from + k) == g (from + k)) n ≡ true → (k : ℕ)
+    → from ≤ k → k < from + n → f k ≡ g k
 same_between f g from n h k low high =
     let place : from + (k - from) ≡ k = omega arith in
     let near : k - from < n = omega arith in

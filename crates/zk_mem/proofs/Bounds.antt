@@ -9,10 +9,12 @@ use Rattle.zk_mem.specs.Story.{refusal, greatest_length, IsBounded}
 greatest_bound : (v most : ℕ) → greatest_length v ≡ Some most → most ≤ 524288
 greatest_bound v most h = grind (arith, common_steps)
 
-by_length : (file : List ℕ) (o : Option ℕ) → greatest_length (slice_index file 0) ≡ o → refusal file ≡ None → length file ≤ 524288
+by_length : (file : List ℕ) (o : Option ℕ) → greatest_length (slice_index file 0) ≡ o → refusal file ≡ None
+    → length file ≤ 524288
 unfolding refusal
 by_length file None e h = grind (arith, common_steps)
-by_length file (Some most) e h = let m : most ≤ 524288 = greatest_bound (slice_index file 0) most e in grind (arith, common_steps)
+by_length file (Some most) e h =
+    let m : most ≤ 524288 = greatest_bound (slice_index file 0) most e in grind (arith, common_steps)
 
 pub none_bounds : (file : List ℕ) → refusal file ≡ None → IsBounded file
 unfolding refusal

@@ -1,9 +1,11 @@
 -- Setting the header's fields leaves the length and the bytes after the header alone.
 use Rattle.std.specs.Prelude.{slice_set, if◌then◌else◌}
-use Rattle.std.proofs.Common.{◌≡◌, ◌≤◌, ◌<◌, ◌∙◌, ℕ, Bool, true, false, List, [], ◌∷◌, length, drop, nat_lt, arith, refl, lit<}
+use Rattle.std.proofs.Common.{◌≡◌, ◌≤◌, ◌<◌, ◌∙◌, ℕ, Bool, true, false, List, [], ◌∷◌, length, drop, nat_lt, arith}
+use Rattle.std.proofs.Common.{refl, lit<}
 use Rattle.std.proofs.lemmas.List.{drop-set-lt}
 use Rattle.std.proofs.Math.ListN.{length-set}
-use Rattle.zk_mem.specs.Fresh.{with_values, standard_fields, screen_fields_3, screen_fields_4, screen_fields_5, with_group, with_fields}
+use Rattle.zk_mem.specs.Fresh.{with_values, standard_fields, screen_fields_3, screen_fields_4, screen_fields_5}
+use Rattle.zk_mem.specs.Fresh.{with_group, with_fields}
 
 -- values of the header alone
 abbrev AreLow : List (ℕ × ℕ) → Type 0
@@ -39,14 +41,16 @@ like_3 : (n : ℕ) (bytes : List ℕ) → 64 ≤ n → IsLike n (with_group scre
 like_3 n bytes h = like_values n (screen_fields_3 bytes) bytes h (lit< tt, tt)
 
 like_4 : (n : ℕ) (bytes : List ℕ) → 64 ≤ n → IsLike n (with_group screen_fields_4 bytes) bytes
-like_4 n bytes h = like_values n (screen_fields_4 bytes) bytes h (lit< tt, (lit< tt, (lit< tt, (lit< tt, (lit< tt, tt)))))
+like_4 n bytes h =
+    like_values n (screen_fields_4 bytes) bytes h (lit< tt, (lit< tt, (lit< tt, (lit< tt, (lit< tt, tt)))))
 
 like_5 : (n undo_states : ℕ) (bytes : List ℕ) → 64 ≤ n → IsLike n (with_group (screen_fields_5 undo_states) bytes) bytes
 like_5 n undo_states bytes h =
     like_values n (screen_fields_5 undo_states bytes) bytes h
     (lit< tt, (lit< tt, (lit< tt, (lit< tt, (lit< tt, (lit< tt, (lit< tt, (lit< tt, (lit< tt, (lit< tt, tt))))))))))
 
-like_fields : (n version undo_states : ℕ) (bytes : List ℕ) → 64 ≤ n → IsLike n (with_fields version undo_states bytes) bytes
+like_fields : (n version undo_states : ℕ) (bytes : List ℕ) → 64 ≤ n
+    → IsLike n (with_fields version undo_states bytes) bytes
 unfolding with_fields
 like_fields n version undo_states bytes h =
     let standard = with_values standard_fields bytes in
@@ -55,10 +59,13 @@ like_fields n version undo_states bytes h =
     like_if n (nat_lt version 4) _ _ bytes
     (like_both n _ standard bytes (like_3 n standard h) first)
     (like_if n (nat_lt version 5) _ _ bytes four
-    (like_both n _ (with_group screen_fields_4 standard) bytes (like_5 n undo_states (with_group screen_fields_4 standard) h) four))
+    (like_both n _ (with_group screen_fields_4 standard) bytes
+    (like_5 n undo_states (with_group screen_fields_4 standard) h) four))
 
-pub length-with_fields : (version undo_states : ℕ) (bytes : List ℕ) → length (with_fields version undo_states bytes) ≡ length bytes
+pub length-with_fields : (version undo_states : ℕ) (bytes : List ℕ)
+    → length (with_fields version undo_states bytes) ≡ length bytes
 length-with_fields version undo_states bytes = (like_fields 64 version undo_states bytes (omega arith)).long
 
-pub drop-with_fields : (n version undo_states : ℕ) (bytes : List ℕ) → 64 ≤ n → drop n (with_fields version undo_states bytes) ≡ drop n bytes
+pub drop-with_fields : (n version undo_states : ℕ) (bytes : List ℕ) → 64 ≤ n
+    → drop n (with_fields version undo_states bytes) ≡ drop n bytes
 drop-with_fields n version undo_states bytes h = (like_fields n version undo_states bytes h).rest

@@ -10,3 +10,4 @@ pub mod Starts
 pub mod Sums
 pub mod TextWords
 pub mod Writes
+pub mod guards

@@ -7,7 +7,8 @@ use Rattle.zk_mem.specs.declared.header.Header.{Header}
 use Rattle.zk_mem.specs.Map.{IsWhole}
 
 -- after what was copied, bytes are as before
-behind : (bytes : List ℕ) (from to count base : ℕ) → from + count ≤ length bytes → to + count ≤ base → base ≤ length bytes → drop base (paste bytes to (drop from bytes) count) ≡ drop base bytes
+behind : (bytes : List ℕ) (from to count base : ℕ) → from + count ≤ length bytes → to + count ≤ base
+    → base ≤ length bytes → drop base (paste bytes to (drop from bytes) count) ≡ drop base bytes
 behind bytes from to count base inside dynamic within =
     let rest : to + count + (base - (to + count)) ≡ base = omega arith in
     let end = drop-paste bytes to (drop from bytes) count (omega arith) (omega (arith, length-drop from bytes)) in
@@ -17,7 +18,8 @@ behind bytes from to count base inside dynamic within =
     ∙ drop-drop (base - (to + count)) (to + count) bytes
     ∙ ap (λ (n : ℕ). drop n bytes) rest
 
-pub whole_moved : (header : Header) (readable : ℕ) (bytes file : List ℕ) (from to count : ℕ) → IsWhole header readable bytes file → from + count ≤ length bytes → to + count ≤ header.static_base
+pub whole_moved : (header : Header) (readable : ℕ) (bytes file : List ℕ) (from to count : ℕ)
+    → IsWhole header readable bytes file → from + count ≤ length bytes → to + count ≤ header.static_base
     → IsWhole header readable (paste bytes to (drop from bytes) count) file
 whole_moved header readable bytes file from to count whole inside dynamic =
     let high = whole.static_high in

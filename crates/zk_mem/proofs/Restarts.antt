@@ -8,8 +8,7 @@ use Rattle.std.proofs.lemmas.Nat.Bits.{bit_at_and, bit_at_or, same_from_bits, bi
 use Rattle.zk_mem.specs.Fresh.{with_fields}
 use Rattle.zk_mem.specs.Again.{with_flags, with_bytes, settled, again, restarted}
 use Rattle.zk_mem.specs.Laws.{PutsBack, RestartsOnce, SettlesOnce}
-use Rattle.zk_mem.proofs.Again.{keeps_flags}
-use Rattle.zk_mem.proofs.Again.{set_again_stays}
+use Rattle.zk_mem.proofs.Again.{keeps_flags, set_again_stays}
 use Rattle.zk_mem.proofs.Fields.{length-with_fields, drop-with_fields}
 use Rattle.zk_mem.proofs.Settling.{length-with_flags, drop-with_flags}
 
@@ -28,17 +27,24 @@ bit_none i = bit_at-zero i
 
 -- the bits that were put in
 low_mixed : (a f c t : ℕ) → bit_and c t ≡ 0 → bit_and (mixed a f c t) t ≡ bit_and f t
-low_mixed a f c t e = same_from_bits _ _ (λ i. simp (bit_at_or, bit_at_and) (omega (arith, apart_bits c t i e, bit_none i)))
+low_mixed a f c t e =
+    same_from_bits _ _ (λ i. simp (bit_at_or, bit_at_and) (omega (arith, apart_bits c t i e, bit_none i)))
 
 kept_mixed : (a f c t k : ℕ) → bit_and c t ≡ 0 → bit_and k t ≡ t → bit_and (bit_and (mixed a f c t) k) t ≡ bit_and f t
-kept_mixed a f c t k e w = same_from_bits _ _ (λ i. simp (bit_at_or, bit_at_and) (omega (arith, apart_bits c t i e, within_bits k t i w, bit_none i)))
+kept_mixed a f c t k e w =
+    same_from_bits _ _ (λ i. simp (bit_at_or, bit_at_and)
+    (omega (arith, apart_bits c t i e, within_bits k t i w, bit_none i)))
 
 -- put in again
 mixed_again : (a f c t : ℕ) → bit_and c t ≡ 0 → mixed (mixed a f c t) f c t ≡ mixed a f c t
-mixed_again a f c t e = same_from_bits _ _ (λ i. simp (bit_at_or, bit_at_and) (omega (arith, apart_bits c t i e, bit_none i)))
+mixed_again a f c t e =
+    same_from_bits _ _ (λ i. simp (bit_at_or, bit_at_and) (omega (arith, apart_bits c t i e, bit_none i)))
 
-kept_again : (a f c t k : ℕ) → bit_and c t ≡ 0 → bit_and k t ≡ t → mixed (bit_and (mixed a f c t) k) f c t ≡ bit_and (mixed a f c t) k
-kept_again a f c t k e w = same_from_bits _ _ (λ i. simp (bit_at_or, bit_at_and) (omega (arith, apart_bits c t i e, within_bits k t i w, bit_none i)))
+kept_again : (a f c t k : ℕ) → bit_and c t ≡ 0 → bit_and k t ≡ t → mixed (bit_and (mixed a f c t) k) f c
+    t ≡ bit_and (mixed a f c t) k
+kept_again a f c t k e w =
+    same_from_bits _ _ (λ i. simp (bit_at_or, bit_at_and)
+    (omega (arith, apart_bits c t i e, within_bits k t i w, bit_none i)))
 
 module _ (version undo_states flags : ℕ) (bytes : List ℕ) where
   -- the bytes with flags and fields
@@ -48,7 +54,8 @@ module _ (version undo_states flags : ℕ) (bytes : List ℕ) where
   length_done : length done ≡ length bytes
   length_done = length-with_fields version undo_states (with_flags flags bytes) ∙ length-with_flags flags bytes
 
-  flags_put : 0x11 < length bytes → get_or (with_flags flags bytes) 0x11 0 ≡ mixed (slice_index bytes 0x11) flags 0b11111100 0b11
+  flags_put : 0x11 < length bytes → get_or (with_flags flags bytes) 0x11 0 ≡ mixed (slice_index bytes 0x11) flags
+      0b11111100 0b11
   flags_put inside = get_or-set_same bytes 0x11 (mixed (slice_index bytes 0x11) flags 0b11111100 0b11) 0 inside
 
   flags_done : 0x11 < length bytes → bit_and (get_or done 0x11 0) 0b11 ≡ bit_and flags 0b11
@@ -57,7 +64,8 @@ module _ (version undo_states flags : ℕ) (bytes : List ℕ) where
       let put = flags_put inside in
       ⊎_elim
       (λ same. ap (λ (n : ℕ). bit_and n 0b11) (same ∙ put) ∙ low_mixed a flags 0b11111100 0b11 refl)
-      (λ kept. ap (λ (n : ℕ). bit_and n 0b11) (kept.2 ∙ ap (λ (n : ℕ). bit_and n kept.0) put) ∙ kept_mixed a flags 0b11111100 0b11 kept.0 refl kept.1)
+      (λ kept. ap (λ (n : ℕ). bit_and n 0b11) (kept.2 ∙ ap (λ (n : ℕ). bit_and n kept.0) put)
+      ∙ kept_mixed a flags 0b11111100 0b11 kept.0 refl kept.1)
       (keeps_flags version undo_states (with_flags flags bytes) (omega (arith, length_done)))
 
   again_done : 0x11 < length bytes → mixed (get_or done 0x11 0) flags 0b11111100 0b11 ≡ get_or done 0x11 0
@@ -84,7 +92,9 @@ pub settles_once : SettlesOnce
 unfolding settled
 settles_once flags m =
     let done = with_fields m.version m.undo_states (with_flags flags m.bytes) in
-    ap (with_bytes m) (ap (with_fields m.version m.undo_states) (flags_again m.version m.undo_states flags m.bytes) ∙ set_again_stays m.version m.undo_states (with_flags flags m.bytes))
+    ap (with_bytes m) (ap (with_fields m.version m.undo_states)
+    (flags_again m.version m.undo_states flags m.bytes) ∙ set_again_stays m.version m.undo_states
+    (with_flags flags m.bytes))
 
 pub puts_back : PutsBack
 unfolding again settled
@@ -96,12 +106,14 @@ puts_back old bytes =
       file = refl;
       undo_states = refl;
       size = length_done old.version old.undo_states flags bytes;
-      others = λ a behind. drop-with_fields a old.version old.undo_states (with_flags flags bytes) behind ∙ drop-with_flags a flags bytes behind;
+      others = λ a behind. drop-with_fields a old.version old.undo_states (with_flags flags bytes) behind
+          ∙ drop-with_flags a flags bytes behind;
       flags = λ long. flags_done old.version old.undo_states flags bytes (omega (arith, long));
     }
 
 -- only two bits are looked at
-same_flags : (f g : ℕ) (bytes : List ℕ) → (0x11 < length bytes → bit_and f 0b11 ≡ bit_and g 0b11) → with_flags f bytes ≡ with_flags g bytes
+same_flags : (f g : ℕ) (bytes : List ℕ) → (0x11 < length bytes → bit_and f 0b11 ≡ bit_and g 0b11)
+    → with_flags f bytes ≡ with_flags g bytes
 same_flags f g bytes same =
     let a = slice_index bytes 0x11 in
     ⊎_elim
@@ -114,4 +126,5 @@ unfolding restarted again settled
 restarts_once m =
     let flags = slice_index m.bytes 0x11 in
     let done = with_fields m.version m.undo_states (with_flags flags m.file) in
-    ap (λ (l : List ℕ). with_bytes m (with_fields m.version m.undo_states l)) (same_flags (slice_index done 0x11) flags m.file (flags_done m.version m.undo_states flags m.file))
+    ap (λ (l : List ℕ). with_bytes m (with_fields m.version m.undo_states l))
+    (same_flags (slice_index done 0x11) flags m.file (flags_done m.version m.undo_states flags m.file))

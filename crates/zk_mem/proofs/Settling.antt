@@ -14,10 +14,12 @@ length-with_flags flags bytes = length-set bytes 0x11 _
 pub drop-with_flags : (n flags : ℕ) (bytes : List ℕ) → 64 ≤ n → drop n (with_flags flags bytes) ≡ drop n bytes
 drop-with_flags n flags bytes h = drop-set-lt n bytes 0x11 _ (omega arith)
 
-pub whole_settled : (header : Header) (readable : ℕ) (bytes file new : List ℕ) (version undo_states flags : ℕ) → IsWhole header readable bytes file
+pub whole_settled : (header : Header) (readable : ℕ) (bytes file new : List ℕ) (version undo_states flags : ℕ)
+    → IsWhole header readable bytes file
     → new ≡ with_fields version undo_states (with_flags flags bytes) → IsWhole header readable new file
 whole_settled header readable bytes file new version undo_states flags w e =
-    let long : length new ≡ length bytes = ap length e ∙ length-with_fields version undo_states (with_flags flags bytes) ∙ length-with_flags flags bytes in
+    let long : length new ≡ length bytes = ap length e ∙ length-with_fields version undo_states
+    (with_flags flags bytes) ∙ length-with_flags flags bytes in
     let base = header.static_base in
     record {
       header_is = w.header_is;
@@ -27,5 +29,6 @@ whole_settled header readable bytes file new version undo_states flags w e =
       longest = omega (arith, w.longest);
       static_low = w.static_low;
       static_high = w.static_high;
-      static_is = ap (drop base) e ∙ drop-with_fields base version undo_states (with_flags flags bytes) w.static_low ∙ drop-with_flags base flags bytes w.static_low ∙ w.static_is;
+      static_is = ap (drop base) e ∙ drop-with_fields base version undo_states (with_flags flags bytes)
+          w.static_low ∙ drop-with_flags base flags bytes w.static_low ∙ w.static_is;
     }

@@ -11,8 +11,10 @@ base_is : (file : List ℕ) (header : Header) → header ≡ header_of file → 
 unfolding header_of
 base_is file header e = ap (λ (h : Header). h.static_base) e
 
-pub whole_start : (file bytes : List ℕ) (header : Header) (version undo_states readable : ℕ) → IsBounded file → header ≡ header_of file → header.static_base < 65536
-    → bytes ≡ with_fields version undo_states file → readable ≡ min (length bytes) 65536 → IsWhole header readable bytes file
+pub whole_start : (file bytes : List ℕ) (header : Header) (version undo_states readable : ℕ) → IsBounded file
+    → header ≡ header_of file → header.static_base < 65536
+    → bytes ≡ with_fields version undo_states file → readable ≡ min (length bytes) 65536
+    → IsWhole header readable bytes file
 whole_start file bytes header version undo_states readable bounded h word b r =
     let base = base_is file header h in
     let long : length bytes ≡ length file = ap length b ∙ length-with_fields version undo_states file in

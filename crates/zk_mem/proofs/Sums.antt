@@ -7,7 +7,8 @@ use Rattle.zk_mem.specs.Checksum.{summed_end, file_sum}
 pub sum_start : (xs : List ℕ) → 0 ≡ sum (take 0 xs) % 65536
 sum_start xs = refl
 
-pub sum_step : (xs : List ℕ) (i total : ℕ) → i < length xs → total ≡ sum (take i xs) % 65536 → (total + get_or xs i 0) % 65536 ≡ sum (take (i + 1) xs) % 65536
+pub sum_step : (xs : List ℕ) (i total : ℕ) → i < length xs → total ≡ sum (take i xs) % 65536
+    → (total + get_or xs i 0) % 65536 ≡ sum (take (i + 1) xs) % 65536
 sum_step xs i total lt e =
     let more : sum (take (i + 1) xs) ≡ sum (take i xs) + get_or xs i 0 = sum_by_more (λ x. x) xs i 0 lt in
     omega (arith, more, e)
@@ -22,6 +23,7 @@ sum_none file end e low =
     let none : summed_end file - 64 ≡ 0 = omega arith in
     rw none refl
 
-pub sum_is : (file : List ℕ) (end : ℕ) → end ≡ summed_end file → sum (take (end - 64) (drop 64 file)) % 65536 ≡ file_sum file
+pub sum_is : (file : List ℕ) (end : ℕ) → end ≡ summed_end file
+    → sum (take (end - 64) (drop 64 file)) % 65536 ≡ file_sum file
 unfolding file_sum
 sum_is file end e = rw (← e) refl

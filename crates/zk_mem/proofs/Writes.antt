@@ -1,6 +1,7 @@
 -- What a write leaves as it was.
 use Rattle.std.specs.Prelude.{slice_set, if◌then◌else◌, slice_get}
-use Rattle.std.proofs.Common.{◌≡◌, ◌≢◌, ◌≤◌, ◌<◌, ◌⊎◌, inl, inr, ◌∙◌, ℕ, zero, suc, ◌+◌, ◌*◌, ◌/◌, ◌%◌, Bool, true, false, List, [], ◌∷◌, length, get_or, Ok, Err, nat_lt, min, arith, refl, ap, subst}
+use Rattle.std.proofs.Common.{◌≡◌, ◌≢◌, ◌≤◌, ◌<◌, ◌⊎◌, inl, inr, ◌∙◌, ℕ, zero, suc, ◌+◌, ◌*◌, ◌/◌, ◌%◌, Bool, true}
+use Rattle.std.proofs.Common.{false, List, [], ◌∷◌, length, get_or, Ok, Err, nat_lt, min, arith, refl, ap, subst}
 use Rattle.std.proofs.lemmas.Bool.Decides.{nat_tests}
 use Rattle.std.proofs.lemmas.List.{get_or-set_same, get_or-set_other}
 use Rattle.std.proofs.Math.ListN.{length-set}
@@ -30,7 +31,8 @@ beside_second a c (inl low) = λ e. omega arith
 beside_second a c (inr high) = λ e. omega arith
 
 -- where a test lets a write pass, it was made
-pub put_where : (b c : Bool) (m n : MemoryMap) → (if b then (if c then Ok m else Err ReadOnly) else Err BadAddress) ≡ Ok n → (b ≡ true) × (c ≡ true) × (m ≡ n)
+pub put_where : (b c : Bool) (m n : MemoryMap)
+    → (if b then (if c then Ok m else Err ReadOnly) else Err BadAddress) ≡ Ok n → (b ≡ true) × (c ≡ true) × (m ≡ n)
 put_where true true m n h = (refl, refl, cc)
 put_where true false m n h = absurd cc
 put_where false c m n h = absurd cc
@@ -39,7 +41,8 @@ byte_there : (m : MemoryMap) (a v : ℕ) → a < readable_end m → a < m.static
 unfolding byte_at cell_at
 byte_there m a v inside dynamic =
     let long : a < length m.bytes = omega arith in
-    let test : nat_lt a (min (length (slice_set m.bytes a v)) 65536) ≡ true = (rw (length-set m.bytes a v) (grind (arith, nat_tests))) in
+    let test : nat_lt a (min (length (slice_set m.bytes a v)) 65536)
+    ≡ true = (rw (length-set m.bytes a v) (grind (arith, nat_tests))) in
     record {
       dynamic = dynamic;
       written = rw (test, get_or-set_same m.bytes a v 0 long) refl;
@@ -57,17 +60,23 @@ pub byte_is_written : ByteIsWritten
 unfolding byte_put
 byte_is_written m n a v h =
     let passed = put_where (nat_lt a (readable_end m)) (nat_lt a m.static_base) (with_byte m a v) n h in
-    subst (λ (x : MemoryMap). WritesByte m x a v) passed.2 (byte_there m a v (grind (arith, nat_tests, passed.0)) (grind (arith, nat_tests, passed.1)))
+    subst (λ (x : MemoryMap). WritesByte m x a v) passed.2
+    (byte_there m a v (grind (arith, nat_tests, passed.0)) (grind (arith, nat_tests, passed.1)))
 
-word_there : (m : MemoryMap) (a v : ℕ) → a + 1 < readable_end m → a + 1 < m.static_base → WritesWord m (with_byte (with_byte m a (v / 256)) (a + 1) (v % 256)) a v
+word_there : (m : MemoryMap) (a v : ℕ) → a + 1 < readable_end m → a + 1 < m.static_base
+    → WritesWord m (with_byte (with_byte m a (v / 256)) (a + 1) (v % 256)) a v
 unfolding word_at cell_at
 word_there m a v inside dynamic =
     let long : a + 1 < length m.bytes = omega arith in
     let first = slice_set m.bytes a (v / 256) in
-    let size : length (slice_set first (a + 1) (v % 256)) ≡ length m.bytes = length-set first (a + 1) (v % 256) ∙ length-set m.bytes a (v / 256) in
-    let test : nat_lt (a + 1) (min (length (slice_set first (a + 1) (v % 256))) 65536) ≡ true = (rw size (grind (arith, nat_tests))) in
-    let high : get_or (slice_set first (a + 1) (v % 256)) a 0 ≡ v / 256 = get_or-set_other first (a + 1) a (v % 256) 0 (λ e. omega arith) ∙ get_or-set_same m.bytes a (v / 256) 0 (omega arith) in
-    let low : get_or (slice_set first (a + 1) (v % 256)) (a + 1) 0 ≡ v % 256 = get_or-set_same first (a + 1) (v % 256) 0 (omega (arith, length-set m.bytes a (v / 256))) in
+    let size : length (slice_set first (a + 1) (v % 256)) ≡ length m.bytes = length-set first (a + 1) (v % 256)
+    ∙ length-set m.bytes a (v / 256) in
+    let test : nat_lt (a + 1) (min (length (slice_set first (a + 1) (v % 256))) 65536)
+    ≡ true = (rw size (grind (arith, nat_tests))) in
+    let high : get_or (slice_set first (a + 1) (v % 256)) a 0 ≡ v / 256 = get_or-set_other first (a + 1) a
+    (v % 256) 0 (λ e. omega arith) ∙ get_or-set_same m.bytes a (v / 256) 0 (omega arith) in
+    let low : get_or (slice_set first (a + 1) (v % 256)) (a + 1) 0 ≡ v % 256 = get_or-set_same first (a + 1)
+    (v % 256) 0 (omega (arith, length-set m.bytes a (v / 256))) in
     let word : 256 * (v / 256) + v % 256 ≡ v = omega arith in
     record {
       dynamic = dynamic;
@@ -78,12 +87,15 @@ word_there m a v inside dynamic =
         file = refl;
         undo_states = refl;
         size = size;
-        others = λ c out. other_item first (a + 1) c (v % 256) (beside_second a c out) ∙ other_item m.bytes a c (v / 256) (beside_first a c out);
+        others = λ c out. other_item first (a + 1) c (v % 256) (beside_second a c out)
+            ∙ other_item m.bytes a c (v / 256) (beside_first a c out);
       };
     }
 
 pub word_is_written : WordIsWritten
 unfolding word_put
 word_is_written m n a v h =
-    let passed = put_where (nat_lt (a + 1) (readable_end m)) (nat_lt (a + 1) m.static_base) (with_byte (with_byte m a (v / 256)) (a + 1) (v % 256)) n h in
-    subst (λ (x : MemoryMap). WritesWord m x a v) passed.2 (word_there m a v (grind (arith, nat_tests, passed.0)) (grind (arith, nat_tests, passed.1)))
+    let passed = put_where (nat_lt (a + 1) (readable_end m)) (nat_lt (a + 1) m.static_base)
+    (with_byte (with_byte m a (v / 256)) (a + 1) (v % 256)) n h in
+    subst (λ (x : MemoryMap). WritesWord m x a v) passed.2
+    (word_there m a v (grind (arith, nat_tests, passed.0)) (grind (arith, nat_tests, passed.1)))

@@ -6,7 +6,8 @@ use Rattle.zk_mem.specs.Map.{MemoryMap}
 -- the bytes with bits 0 and 1 of Flags 2 as in a byte: whether the play is transcribed, and shown in letters of one
 -- width (section 11.1)
 abbrev pub with_flags : ℕ → List ℕ → List ℕ
-with_flags flags bytes = slice_set bytes 0x11 (bit_or (bit_and (slice_index bytes 0x11) 0b11111100) (bit_and flags 0b00000011))
+with_flags flags bytes =
+    slice_set bytes 0x11 (bit_or (bit_and (slice_index bytes 0x11) 0b11111100) (bit_and flags 0b00000011))
 
 -- the memory with other bytes
 abbrev pub with_bytes : MemoryMap → List ℕ → MemoryMap

@@ -1,5 +1,6 @@
 -- The checksum of a story file (Standard, section 11.1.6, and section 15, `verify`).
-use Rattle.std.specs.Prelude.{ℕ, Bool, ◌-◌, ◌*◌, ◌%◌, ◌&&◌, ◌==◌, List, take, drop, length, sum, nat_le, min, if◌then◌else◌}
+use Rattle.std.specs.Prelude.{ℕ, Bool, ◌-◌, ◌*◌, ◌%◌, ◌&&◌, ◌==◌, List, take, drop, length, sum, nat_le, min}
+use Rattle.std.specs.Prelude.{if◌then◌else◌}
 use Rattle.zk_mem.specs.Header.{header_of, unit_length}
 
 -- the file's length in bytes, as its header states it in units of 2, 4 or 8 bytes (section 11.1.6)

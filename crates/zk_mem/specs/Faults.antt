@@ -1,7 +1,11 @@
 -- The numbers that reports name faults by.
 use Rattle.std.specs.Prelude.{ℕ}
 use Rattle.zk_mem.specs.declared.fault.Fault.{Fault}
-use Rattle.zk_mem.specs.declared.fault.Fault.TheVariants.{CodePastEnd, BadOpcode, MissingOperand, StackEmpty, NoSuchLocal, BadAddress, ReadOnly, DivisionByZero, BadObject, BadProperty, BadTree, TextPastEnd, NestedAbbreviation, StreamDepth, BadFrame, ReturnFromMain, BadTarget, BadDictionary}
+use Rattle.zk_mem.specs.declared.fault.Fault.TheVariants.{CodePastEnd, BadOpcode, MissingOperand, StackEmpty}
+use Rattle.zk_mem.specs.declared.fault.Fault.TheVariants.{NoSuchLocal, BadAddress, ReadOnly, DivisionByZero, BadObject}
+use Rattle.zk_mem.specs.declared.fault.Fault.TheVariants.{BadProperty, BadTree, TextPastEnd, NestedAbbreviation}
+use Rattle.zk_mem.specs.declared.fault.Fault.TheVariants.{StreamDepth, BadFrame, ReturnFromMain, BadTarget}
+use Rattle.zk_mem.specs.declared.fault.Fault.TheVariants.{BadDictionary}
 
 -- the number of a fault
 abbrev pub fault_number : Fault → ℕ

@@ -42,7 +42,8 @@ SetAgainStays = (version undo_states : ℕ) (bytes : List ℕ) →
 -- the memory at the start, made fresh again, is the same
 abbrev pub FreshAgainStays : Type 0
 FreshAgainStays = (file : List ℕ) (undo_states : ℕ) →
-    with_fields (fresh file undo_states).version undo_states (fresh file undo_states).bytes ≡ (fresh file undo_states).bytes
+    with_fields (fresh file undo_states).version undo_states (fresh file undo_states).bytes
+    ≡ (fresh file undo_states).bytes
 
 -- a text lies whole inside the story, two bytes to a word (section 3.2)
 abbrev pub TextLiesInside : Type 0

@@ -8,4 +8,4 @@ pub mod Fresh
 pub mod Again
 pub mod Checksum
 pub mod Laws
-pub mod Examples
+pub mod guards

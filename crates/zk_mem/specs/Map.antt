@@ -1,5 +1,6 @@
 -- The memory map of a story (Standard, section 1.1), and how its data is read and written.
-use Rattle.std.specs.Prelude.{◌≡◌, ℕ, ◌+◌, ◌/◌, ◌%◌, ◌<◌, ◌≤◌, List, ◌++◌, length, take, drop, slice_index, slice_get, slice_set, Option, Some, None, Result, Ok, Err, nat_lt, min, if◌then◌else◌}
+use Rattle.std.specs.Prelude.{◌≡◌, ℕ, ◌+◌, ◌/◌, ◌%◌, ◌<◌, ◌≤◌, List, ◌++◌, length, take, drop, slice_index, slice_get}
+use Rattle.std.specs.Prelude.{slice_set, Option, Some, None, Result, Ok, Err, nat_lt, min, if◌then◌else◌}
 use Rattle.zk_mem.specs.declared.fault.Fault.{Fault}
 use Rattle.zk_mem.specs.declared.fault.Fault.TheVariants.{BadAddress, ReadOnly}
 use Rattle.zk_mem.specs.declared.header.Header.{Header}
@@ -51,7 +52,8 @@ word_put m a v =
 
 -- the map with so many of its bytes copied to an address, as if at once
 abbrev pub with_copy : MemoryMap → ℕ → ℕ → ℕ → MemoryMap
-with_copy m from to count = record m { bytes = take to m.bytes ++ take count (drop from m.bytes) ++ drop (to + count) m.bytes }
+with_copy m from to count =
+    record m { bytes = take to m.bytes ++ take count (drop from m.bytes) ++ drop (to + count) m.bytes }
 
 -- the byte at any address of the story, for code and text
 unfoldable pub cell_at : MemoryMap → ℕ → Option ℕ

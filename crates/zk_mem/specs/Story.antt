@@ -1,7 +1,9 @@
 -- Which files are stories.
-use Rattle.std.specs.Prelude.{ℕ, ◌<◌, ◌≤◌, ◌||◌, Bool, true, false, List, [], ◌∷◌, length, slice_index, Option, Some, None, nat_lt, nat_le, ◌==◌, if◌then◌else◌}
+use Rattle.std.specs.Prelude.{ℕ, ◌<◌, ◌≤◌, ◌||◌, Bool, true, false, List, [], ◌∷◌, length, slice_index, Option, Some}
+use Rattle.std.specs.Prelude.{None, nat_lt, nat_le, ◌==◌, if◌then◌else◌}
 use Rattle.zk_mem.specs.declared.story.OpenError.{OpenError}
-use Rattle.zk_mem.specs.declared.story.OpenError.TheVariants.{TooShort, Version, TooLong, StaticBase, FirstInstruction, OutOfMemory}
+use Rattle.zk_mem.specs.declared.story.OpenError.TheVariants.{TooShort, Version, TooLong, StaticBase, FirstInstruction}
+use Rattle.zk_mem.specs.declared.story.OpenError.TheVariants.{OutOfMemory}
 use Rattle.zk_mem.specs.Header.{word_in}
 
 -- the greatest length of a file of a version (Standard, section 1.1.4), of those that are played

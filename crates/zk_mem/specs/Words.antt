@@ -1,5 +1,6 @@
 -- The words of a text, and where it ends (Standard, section 3.2).
-use Rattle.std.specs.Prelude.{ℕ, ◌+◌, ◌*◌, List, [], ◌∷◌, length, drop, Option, Some, None, option_map, nat_le, if◌then◌else◌}
+use Rattle.std.specs.Prelude.{ℕ, ◌+◌, ◌*◌, List, [], ◌∷◌, length, drop, Option, Some, None, option_map, nat_le}
+use Rattle.std.specs.Prelude.{if◌then◌else◌}
 use Rattle.zk_mem.specs.Map.{MemoryMap}
 
 -- a word before others, where there are others

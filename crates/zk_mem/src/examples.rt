@@ -1,6 +1,14 @@
 // Worked examples of the definitions, which refuse one that is turned together with its body.
 
-ghost use Rattle.zk_mem.specs.Examples.{FieldsStand, LateFields, PackedByVersion, DataIsRead, CodeIsRead, BytesArePut, WordsArePut, BytesAreCopied, DataEndsAt65536, DataEndsWithTheStory, WordAt65535IsOutside, TextsEndAtTheMark, TextsHaveAnEnd, GreatestLengths, StoriesAreOpened, ReasonsInOrder, RefusalsHaveNumbers, FaultsHaveNumbers, FieldsOfVersion3, FieldsOfVersion3SetABit, FieldsOfVersion4, FieldsOfVersion5, FieldsOfVersion8, MemoryStartsSo, SumsGoToTheStatedLength, SumsAreModulo65536, SumsAreCompared, RestartsSo, BytesArePutBack, SettlesSo, SettlesLaterVersions};
+ghost use Rattle.zk_mem.specs.guards.Examples.{FieldsStand, LateFields, PackedByVersion, DataIsRead, CodeIsRead};
+ghost use Rattle.zk_mem.specs.guards.Examples.{BytesArePut, WordsArePut, BytesAreCopied, DataEndsAt65536};
+ghost use Rattle.zk_mem.specs.guards.Examples.{DataEndsWithTheStory, WordAt65535IsOutside, TextsEndAtTheMark};
+ghost use Rattle.zk_mem.specs.guards.Examples.{TextsHaveAnEnd, GreatestLengths, StoriesAreOpened, ReasonsInOrder};
+ghost use Rattle.zk_mem.specs.guards.Examples.{RefusalsHaveNumbers, FaultsHaveNumbers, FieldsOfVersion3};
+ghost use Rattle.zk_mem.specs.guards.Examples.{FieldsOfVersion3SetABit, FieldsOfVersion4, FieldsOfVersion5};
+ghost use Rattle.zk_mem.specs.guards.Examples.{FieldsOfVersion8, MemoryStartsSo, SumsGoToTheStatedLength};
+ghost use Rattle.zk_mem.specs.guards.Examples.{SumsAreModulo65536, SumsAreCompared, RestartsSo, BytesArePutBack};
+ghost use Rattle.zk_mem.specs.guards.Examples.{SettlesSo, SettlesLaterVersions};
 
 /// The header, and packed addresses (Standard, sections 1.2.3 and 11.1).
 #[tactic(auto, unfolding(crate::specs::Header::header_of, crate::specs::Header::unit_length))]
@@ -11,7 +19,7 @@ pub fn header_by_example()
 {}
 
 /// Data is read and written (Standard, sections 1.1 and 2.1).
-#[tactic(auto, unfolding(crate::specs::Map::byte_at, crate::specs::Map::word_at, crate::specs::Map::byte_put, crate::specs::Map::word_put, crate::specs::Map::cell_at, crate::specs::Map::code_word_at))]
+#[tactic(auto, unfolding(crate::proofs::guards::Opened::examples))]
 pub fn data_by_example()
     ensures data_is_read { DataIsRead }
     ensures code_is_read { CodeIsRead }
@@ -24,7 +32,7 @@ pub fn data_by_example()
 {}
 
 /// The words of a text and its end (Standard, section 3.2).
-#[tactic(auto, unfolding(crate::specs::Words::words_in, crate::specs::Words::words_at, crate::specs::Words::text_end_at))]
+#[tactic(auto, unfolding(crate::proofs::guards::Opened::examples))]
 pub fn texts_by_example()
     ensures texts_end_at_the_mark { TextsEndAtTheMark }
     ensures texts_have_an_end { TextsHaveAnEnd }
@@ -45,7 +53,7 @@ pub fn numbers_by_example()
 {}
 
 /// The header's fields that are set at the start (Standard, section 11.1).
-#[tactic(auto, unfolding(crate::specs::Fresh::with_fields, crate::specs::Fresh::fresh, crate::specs::Header::header_of, crate::specs::Header::unit_length))]
+#[tactic(auto, unfolding(crate::proofs::guards::Opened::examples))]
 pub fn fresh_by_example()
     ensures fields_of_version3 { FieldsOfVersion3 }
     ensures fields_of_version3_set_a_bit { FieldsOfVersion3SetABit }
@@ -56,7 +64,7 @@ pub fn fresh_by_example()
 {}
 
 /// The sum of a file's bytes (Standard, section 15, `verify`).
-#[tactic(auto, unfolding(crate::specs::Checksum::file_sum, crate::specs::Checksum::has_right_sum, crate::specs::Header::header_of, crate::specs::Header::unit_length))]
+#[tactic(auto, unfolding(crate::proofs::guards::Opened::examples))]
 pub fn sums_by_example()
     ensures sums_go_to_the_stated_length { SumsGoToTheStatedLength }
     ensures sums_are_modulo65536 { SumsAreModulo65536 }
@@ -64,7 +72,7 @@ pub fn sums_by_example()
 {}
 
 /// Memory that is put back (Standard, section 6.1).
-#[tactic(auto, unfolding(crate::specs::Again::settled, crate::specs::Again::again, crate::specs::Again::restarted, crate::specs::Fresh::with_fields))]
+#[tactic(auto, unfolding(crate::proofs::guards::Opened::examples))]
 pub fn restarts_by_example()
     ensures restarts_so { RestartsSo }
     ensures bytes_are_put_back { BytesArePutBack }

@@ -1,6 +1,7 @@
 // Laws of memory.
 
-ghost use Rattle.zk_mem.specs.Laws.{ByteIsWritten, WordIsWritten, SetAgainStays, FreshAgainStays, PutsBack, RestartsOnce, SettlesOnce, TextLiesInside};
+ghost use Rattle.zk_mem.specs.Laws.{ByteIsWritten, WordIsWritten, SetAgainStays, FreshAgainStays, PutsBack};
+ghost use Rattle.zk_mem.specs.Laws.{RestartsOnce, SettlesOnce, TextLiesInside};
 
 /// A write changes what it writes, and nothing else: no other byte, no length, and nothing of the file.
 pub fn writes_change_alone()

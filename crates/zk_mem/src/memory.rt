@@ -1,12 +1,16 @@
 // The memory of a story that runs.
 
-ghost use Rattle.std.specs.Prelude.{◌≡◌, ◌≤◌, ◌<◌, ℕ, ◌+◌, ◌++◌, Ok, Err, IfOk, IfErr, IfSome, IsOk, OnOk, OnSome, MatchResult, length, take, drop, get_or, slice_index, bit_xor, nat_lt, if◌then◌else◌};
+ghost use Rattle.std.specs.Prelude.{◌≡◌, ◌≤◌, ◌<◌, ℕ, ◌+◌, ◌++◌, Ok, Err, IfOk, IfErr, IfSome, IsOk, OnOk, OnSome};
+ghost use Rattle.std.specs.Prelude.{MatchResult, length, take, drop, get_or, slice_index, bit_xor, nat_lt};
+ghost use Rattle.std.specs.Prelude.{if◌then◌else◌};
 ghost use Rattle.zk_mem.specs.Header.{header_of};
-ghost use Rattle.zk_mem.specs.Map.{readable_end, with_byte, with_copy, byte_at, word_at, byte_put, word_put, cell_at, code_word_at, HasBytes, KeepsFile, IsOfFile};
+ghost use Rattle.zk_mem.specs.Map.{readable_end, with_byte, with_copy, byte_at, word_at, byte_put, word_put, cell_at};
+ghost use Rattle.zk_mem.specs.Map.{code_word_at, HasBytes, KeepsFile, IsOfFile};
 ghost use Rattle.zk_mem.specs.Words.{text_end_at};
 ghost use Rattle.zk_mem.specs.Again.{with_flags, with_bytes, settled, restarted};
 ghost use Rattle.zk_mem.specs.Checksum.{file_sum, has_right_sum};
-ghost use Rattle.zk_mem.specs.Fresh.{with_fields, with_values, standard_fields, screen_fields_3, screen_fields_4, screen_fields_5, fresh};
+ghost use Rattle.zk_mem.specs.Fresh.{with_fields, with_values, standard_fields, screen_fields_3, screen_fields_4};
+ghost use Rattle.zk_mem.specs.Fresh.{screen_fields_5, fresh};
 
 use crate::checksum::{is_right, sum_of};
 use crate::fault::Fault;
@@ -340,7 +344,7 @@ impl Memory {
 
     /// The address after the text at an address, anywhere in the story: after its first word whose top
     /// bit is set (Standard, section 3.2). Where no such word lies inside the story there is none.
-    #[tactic(auto, using(crate::proofs::TextWords::end_on, crate::proofs::TextWords::end_last, crate::proofs::TextWords::end_gone, crate::proofs::TextWords::end_past, crate::proofs::TextWords::end_inside))]
+    #[tactic(auto, using(crate::proofs::TextWords::of_text_end))]
     pub fn text_end(&self, address: u32) -> Option<u32>
         ensures value { result ≡ text_end_at self.now address }
         ensures within { IfSome result (λ end. end ≤ length self.now.bytes) }

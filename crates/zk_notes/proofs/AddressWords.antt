@@ -3,7 +3,8 @@ use Rattle.std.specs.List.{list_all}
 use Rattle.std.specs.Prelude.{nat_le, nat_lt}
 use Rattle.std.specs.Result.{result_ok}
 use Rattle.std.specs.Str.Parse.{AllDigits, ParsesUnsigned, digits_value, without_leading_plus}
-use Rattle.std.proofs.Common.{◌≡◌, ℕ, ◌<◌, ◌≤◌, ◌^◌, ◌&&◌, ◌==◌, Bool, true, false, List, [], ◌∷◌, length, Result, Ok, Err, None, refl, ap, ◌∙◌, subst, arith}
+use Rattle.std.proofs.Common.{◌≡◌, ℕ, ◌<◌, ◌≤◌, ◌^◌, ◌&&◌, ◌==◌, Bool, true, false, List, [], ◌∷◌, length, Result, Ok}
+use Rattle.std.proofs.Common.{Err, None, refl, ap, ◌∙◌, subst, arith}
 use Rattle.std.proofs.lemmas.Bool.Decides.{nat_tests}
 use Rattle.zk_notes.specs.Addresses.{address_of, is_hex_digit}
 
@@ -42,11 +43,13 @@ pub other_is_none : (bs : List ℕ) → list_all is_hex_digit bs ≡ false → a
 unfolding address_of
 other_is_none bs h = rw (h, no_more (nat_le 5 (length bs)) (nat_lt (digits_value 16 bs) (2 ^ 32))) refl
 
-too_large : (bs : List ℕ) (v : Bool) → nat_lt (digits_value 16 bs) (2 ^ 32) ≡ v → (digits_value 16 bs < 2 ^ 32 → ⊥) → v ≡ false
+too_large : (bs : List ℕ) (v : Bool) → nat_lt (digits_value 16 bs) (2 ^ 32) ≡ v
+    → (digits_value 16 bs < 2 ^ 32 → ⊥) → v ≡ false
 too_large bs false e n = refl
 too_large bs true e n = let s : digits_value 16 bs < 2 ^ 32 = grind (arith, nat_tests) in absurd (n s)
 
-pub read_is_address : {E : Type 0} (bs : List ℕ) (r : Result ℕ E) → 5 ≤ length bs → list_all is_hex_digit bs ≡ true → ParsesUnsigned 32 16 bs r → result_ok r ≡ address_of bs
+pub read_is_address : {E : Type 0} (bs : List ℕ) (r : Result ℕ E) → 5 ≤ length bs
+    → list_all is_hex_digit bs ≡ true → ParsesUnsigned 32 16 bs r → result_ok r ≡ address_of bs
 unfolding address_of
 read_is_address {E} bs (Ok n) h d p =
     let q : n ≡ digits_value 16 bs = p.1 ∙ ap (digits_value 16) (no_plus bs d) in
@@ -59,3 +62,5 @@ read_is_address {E} bs (Err e) h d p =
     let n : digits_value 16 bs < 2 ^ 32 → ⊥ = λ s. p (rw (no_plus bs d) ((some, all_digits bs d), s)) in
     let five : nat_le 5 (length bs) ≡ true = grind (arith, nat_tests) in
     rw (d, five, too_large bs (nat_lt (digits_value 16 bs) (2 ^ 32)) refl n) refl
+
+pub ruleset of_address_of = (short_is_none, other_is_none, read_is_address)

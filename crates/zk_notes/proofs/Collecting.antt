@@ -2,7 +2,8 @@
 use Rattle.std.proofs.Common.{◌≡◌, ◌∙◌, Bool, true, false, List, [], ◌++◌, Result, Ok, Err, IfOk, ap, refl}
 use Rattle.zk_inspect.specs.Facts.{Collected}
 
-pub collected_all : {A : Type 0} (x y : Bool) (old new s : List A) → x ≡ false → old ≡ [] → Collected x y old new s → y ≡ false → new ≡ s
+pub collected_all : {A : Type 0} (x y : Bool) (old new s : List A) → x ≡ false → old ≡ []
+    → Collected x y old new s → y ≡ false → new ≡ s
 collected_all {A} false false old new s e none h f = h ∙ ap (λ (l : List A). l ++ s) none
 collected_all {A} false true old new s e none h f = absurd cc
 collected_all {A} true y old new s e none h f = absurd cc

@@ -1,6 +1,7 @@
 pub mod AddressWords
-pub mod LineLoops
+pub mod Collecting
 pub mod Covered
+pub mod LineLoops
 pub mod Unions
 pub mod Versions
-pub mod Collecting
+pub mod guards

@@ -3,7 +3,8 @@ use Rattle.std.specs.Prelude.{MatchResult, nat_le, option_map}
 use Rattle.std.specs.Char.{is_ascii_digit}
 use Rattle.std.specs.Result.{result_ok}
 use Rattle.std.specs.Str.{IsUtf8}
-use Rattle.std.proofs.Common.{◌≡◌, ℕ, ◌<◌, ◌&&◌, ◌==◌, true, false, List, [], ◌∷◌, length, take, drop, get_or, zero, suc, lit<, Result, Ok, Err, None, Bor, refl, arith, length-drop, length-take}
+use Rattle.std.proofs.Common.{◌≡◌, ℕ, ◌<◌, ◌&&◌, ◌==◌, true, false, List, [], ◌∷◌, length, take, drop, get_or, zero}
+use Rattle.std.proofs.Common.{suc, lit<, Result, Ok, Err, None, Bor, refl, arith, length-drop, length-take}
 use Rattle.std.proofs.lemmas.Bool.Decides.{nat_tests}
 use Rattle.std.proofs.lemmas.Str.{IsUtf8-from_ascii}
 use Rattle.zk_notes.proofs.AddressWords.{both}
@@ -52,8 +53,10 @@ ascii (a ∷ b ∷ []) h = absurd cc
 ascii (a ∷ b ∷ c ∷ []) h = absurd cc
 ascii (a ∷ b ∷ c ∷ d ∷ e ∷ es) h = absurd cc
 
-pub read_is_version : {E : Type 0} (Q : E → Type 0) (header : List ℕ) (r : Result (Bor (List ℕ)) E) → is_version (take 4 (drop 60 header)) ≡ true
-    → MatchResult r (λ s. (s.now ≡ take 4 (drop 60 header)) × IsUtf8 (take 4 (drop 60 header))) (λ e. ¬ (IsUtf8 (take 4 (drop 60 header))) × Q e)
+pub read_is_version : {E : Type 0} (Q : E → Type 0) (header : List ℕ) (r : Result (Bor (List ℕ)) E)
+    → is_version (take 4 (drop 60 header)) ≡ true
+    → MatchResult r (λ s. (s.now ≡ take 4 (drop 60 header)) × IsUtf8 (take 4 (drop 60 header)))
+    (λ e. ¬ (IsUtf8 (take 4 (drop 60 header))) × Q e)
     → option_map (λ (v : Bor (List ℕ)). v.now) (result_ok r) ≡ compiler_of header
 unfolding compiler_of
 read_is_version {E} Q header (Ok s) v h = rw (v, h.0) refl

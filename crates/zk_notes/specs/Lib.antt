@@ -5,4 +5,4 @@ pub mod Counts
 pub mod Findings
 pub mod Marks
 pub mod Union
-pub mod Examples
+pub mod guards

@@ -1,5 +1,6 @@
 -- Disassemblies with marks at what ran.
-use Rattle.std.specs.Prelude.{ℕ, ◌==◌, ◌&&◌, Bool, true, false, List, ◌++◌, codes, nat_lt, length, count_by, decimal, if◌then◌else◌, Option, Some, None}
+use Rattle.std.specs.Prelude.{ℕ, ◌==◌, ◌&&◌, Bool, true, false, List, ◌++◌, codes, nat_lt, length, count_by, decimal}
+use Rattle.std.specs.Prelude.{if◌then◌else◌, Option, Some, None}
 use Rattle.std.specs.List.{filter_map, find, flat_map, list_any}
 use Rattle.std.specs.Str.{bytes_eq}
 use Rattle.zk_mem.specs.Map.{MemoryMap}
@@ -44,7 +45,8 @@ has_begun covered (Some first) next = is_below first next && has_run covered fir
 
 -- a routine ran if the first instruction above its address did
 unfoldable pub was_entered : List ℕ → List ℕ → List ℕ → ℕ → Bool
-was_entered covered instructions routines routine = has_begun covered (first_above routine instructions) (first_above routine routines)
+was_entered covered instructions routines routine =
+    has_begun covered (first_above routine instructions) (first_above routine routines)
 
 abbrev pub found_ran : List ℕ → List ℕ → List ℕ → Option ℕ → Option ℕ → Bool
 found_ran covered instructions routines (Some instruction) routine = has_run covered instruction
@@ -61,11 +63,13 @@ marked_line ran line = (if ran then codes "+ " else codes "  ") ++ line ++ codes
 
 -- the line of a fact with its mark
 abbrev pub marked_fact : Bool → MemoryMap → List ℕ → List ℕ → List ℕ → Fact → List ℕ
-marked_fact notes m covered instructions routines f = marked_line (fact_ran covered instructions routines f) (fact_line notes m f)
+marked_fact notes m covered instructions routines f =
+    marked_line (fact_ran covered instructions routines f) (fact_line notes m f)
 
 -- the lines of code with their marks, where the addresses that ran are known
 unfoldable pub marked_facts : Bool → MemoryMap → List ℕ → List Fact → List ℕ
-marked_facts notes m covered facts = flat_map (marked_fact notes m covered (instructions_in facts) (routines_in facts)) facts
+marked_facts notes m covered facts =
+    flat_map (marked_fact notes m covered (instructions_in facts) (routines_in facts)) facts
 
 -- how many of what is listed ran, and words
 abbrev pub share_of : ℕ → ℕ → List ℕ → List ℕ
@@ -79,8 +83,10 @@ ran_line ran listed entered routines =
 -- and by what is listed
 abbrev pub summary_of : List ℕ → List ℕ → List ℕ → List ℕ
 summary_of covered instructions routines =
-    ran_line (count_by (has_run covered) instructions) (length instructions) (count_by (was_entered covered instructions routines) routines) (length routines)
+    ran_line (count_by (has_run covered) instructions) (length instructions)
+    (count_by (was_entered covered instructions routines) routines) (length routines)
 
 -- code with its marks, and how much of it ran
 abbrev pub marked_of : Bool → MemoryMap → List ℕ → List Fact → List ℕ
-marked_of notes m covered facts = marked_facts notes m covered facts ++ summary_of covered (instructions_in facts) (routines_in facts)
+marked_of notes m covered facts =
+    marked_facts notes m covered facts ++ summary_of covered (instructions_in facts) (routines_in facts)

@@ -16,7 +16,7 @@ fn is_hexadecimal(word: &str) -> bool
 }
 
 /// The address that a word is: five hexadecimal digits at least.
-#[tactic(auto, using(crate::proofs::AddressWords::short_is_none, crate::proofs::AddressWords::other_is_none, crate::proofs::AddressWords::read_is_address))]
+#[tactic(auto, using(crate::proofs::AddressWords::of_address_of))]
 pub(crate) fn address_of(word: &str) -> Option<u32>
     ensures { result ≡ address_of word.now }
 {

@@ -65,11 +65,14 @@ fn add_counts(kinds: &mut [u64], facts: &[Fact])
     }
 }
 
+/// How many kinds of findings there are.
+const KINDS: usize = NUMBERS.len();
+
 /// How many findings stories have, by kind. A number that 64 bits don't hold stays at the greatest that they do.
 #[derive(Drop)]
 pub struct Counts {
     /// The findings of each kind, from `C1` on.
-    kinds: [u64; 12],
+    kinds: [u64; KINDS],
     /// The stories.
     stories: u64,
     /// The stories with a finding.
@@ -84,7 +87,7 @@ impl Counts {
         ensures wrong { result.wrong ≡ 0 }
     {
         Counts {
-            kinds: [0; 12],
+            kinds: [0; KINDS],
             stories: 0,
             wrong: 0,
         }
@@ -164,8 +167,8 @@ impl Counts {
         out.pieces(&line);
     }
 
-    /// The counts as lines: `total C5 3 object links` for each kind that occurs, by its number, and then `total 4 findings in 2
-    /// of 7 stories`, or `total 1 finding in 1 of 1 story`.
+    /// The counts as lines: `total C5 3 object links` for each kind that occurs, by its number, and then `total 4
+    /// findings in 2 of 7 stories`, or `total 1 finding in 1 of 1 story`.
     pub fn text(&self, alloc: Global) -> Result<Vec<u8>, AllocError> {
         let mut out = TextBuilder::new(alloc);
         self.add_kinds(&mut out);

@@ -5,7 +5,9 @@ ghost use Rattle.std.specs.List.{flat_map, list_any};
 ghost use Rattle.std.specs.List.Sorted.{IsNonDecreasing};
 ghost use Rattle.std.specs.Str.Lines.{lines};
 ghost use Rattle.zk_inspect.specs.Lines.{fact_line};
-ghost use Rattle.zk_notes.specs.Marks.{fact_ran, first_above, has_run, instruction_of, instructions_in, is_below, marked_fact, marked_line, marked_of, ran_line, routine_of, routines_in, share_of, summary_of, was_entered};
+ghost use Rattle.zk_notes.specs.Marks.{fact_ran, first_above, has_run, instruction_of, instructions_in, is_below};
+ghost use Rattle.zk_notes.specs.Marks.{marked_fact, marked_line, marked_of, ran_line, routine_of, routines_in};
+ghost use Rattle.zk_notes.specs.Marks.{share_of, summary_of, was_entered};
 ghost use Rattle.zk_notes.specs.Union.{IsUnion, address_on, is_no_address};
 
 use crate::addresses::{address_of, push_found};
@@ -191,7 +193,8 @@ impl Coverage<'_> {
     /// How many of the routines ran.
     fn routines_entered(&self) -> usize
         ensures { IsNonDecreasing self.now.covered.now → result
-            ≡ count_by (was_entered self.now.covered.now self.now.instructions.now self.now.routines.now) self.now.routines.now }
+            ≡ count_by (was_entered self.now.covered.now self.now.instructions.now self.now.routines.now)
+            self.now.routines.now }
     {
         let mut count = 0;
         for address in self.routines {
@@ -217,9 +220,9 @@ impl Coverage<'_> {
     }
 }
 
-/// Code with a mark before each of its lines: `+ ` where it ran, and two spaces where not; and then the line `ran: 12 of 3984
-/// instructions, 3 of 20 routines`. An instruction ran if its address is among the covered ones, which ascend. A routine ran if
-/// the first instruction above its address did, and stands before the next routine.
+/// Code with a mark before each of its lines: `+ ` where it ran, and two spaces where not; and then the line `ran: 12
+/// of 3984 instructions, 3 of 20 routines`. An instruction ran if its address is among the covered ones, which ascend.
+/// A routine ran if the first instruction above its address did, and stands before the next routine.
 pub fn marked(
     alloc: Global,
     facts: &Facts<'_>,
@@ -256,8 +259,8 @@ fn is_no_address(line: &str) -> bool
     !line.trim().is_empty() && address_on(line).is_none()
 }
 
-/// The addresses that the lines of a text are, each once and ascending, as the union of the lists in it; none where a line is no
-/// address. An address has five hexadecimal digits at least, and lines of spaces alone are left out.
+/// The addresses that the lines of a text are, each once and ascending, as the union of the lists in it; none where a
+/// line is no address. An address has five hexadecimal digits at least, and lines of spaces alone are left out.
 pub fn addresses_in(alloc: Global, text: &str) -> Result<Option<Vec<u32>>, AllocError>
     ensures none { IfOk result (λ o. is_none o ≡ list_any is_no_address (lines text.now)) }
     ensures union { IfOk result (λ o. IfSome o (λ v. IsUnion v.items (lines text.now))) }

@@ -1,9 +1,10 @@
 // Worked examples of the definitions, which refuse one that is turned together with its body.
 
-ghost use Rattle.zk_notes.specs.Examples.{AddressesAreRead, CompilersAreKnown, FindingsAreCounted, FactsAreMarked, FindingsAreExplained, LinesAreMarked, ListsAreRead};
+ghost use Rattle.zk_notes.specs.guards.Examples.{AddressesAreRead, CompilersAreKnown, FindingsAreCounted};
+ghost use Rattle.zk_notes.specs.guards.Examples.{FactsAreMarked, FindingsAreExplained, LinesAreMarked, ListsAreRead};
 
 /// Small listings, fact by fact.
-#[tactic(auto, unfolding(crate::specs::Addresses::address_of, crate::specs::Compilers::compiler_of, crate::specs::Marks::was_entered))]
+#[tactic(auto, unfolding(crate::proofs::guards::Opened::examples))]
 pub fn notes_by_example()
     ensures addresses_are_read { AddressesAreRead }
     ensures lists_are_read { ListsAreRead }

@@ -53,8 +53,9 @@ fn write_all<P: LineWriter>(out: &mut P, facts: &Facts<'_>)
     }
 }
 
-/// The lines of `check`, each with two spaces, `; ` and a note after it: what its finding means, as a sentence, and before that
-/// `object 12: ` where the address is that of an object's entry. A fact that is no finding has its line alone.
+/// The lines of `check`, each with two spaces, `; ` and a note after it: what its finding means, as a sentence, and
+/// before that `object 12: ` where the address is that of an object's entry. A fact that is no finding has its line
+/// alone.
 pub fn explain(alloc: Global, facts: &Facts<'_>) -> Result<Vec<u8>, AllocError>
     ensures { IfOk result (λ v. v.items ≡ flat_map (explained facts.now.memory.now) facts.now.list.now) }
 {

@@ -76,8 +76,8 @@ impl Tree {
     }
 }
 
-/// The tree of objects as a graph for Graphviz: a node for each object, with its number and its name, and an edge to each from
-/// the object above it.
+/// The tree of objects as a graph for Graphviz: a node for each object, with its number and its name, and an edge to
+/// each from the object above it.
 pub fn tree_graph(alloc: Global, facts: &Facts<'_>) -> Result<Vec<u8>, AllocError> {
     let mut tree = Tree {
         out: TextBuilder::new(alloc),
@@ -134,8 +134,8 @@ fn routine_below(routines: &[Routine], address: u32) -> Option<u32> {
     Some(last.address)
 }
 
-/// A call by a constant: the routine that calls, or none where it is the code that a story begins with; and the routine that
-/// is called.
+/// A call by a constant: the routine that calls, or none where it is the code that a story begins with; and the routine
+/// that is called.
 type Call = (Option<u32>, u32);
 
 /// The routine that the instruction at an address calls by a constant.
@@ -221,8 +221,8 @@ fn add_code(out: &mut TextBuilder, routines: &[Routine], calls: &[Call]) {
     }
 }
 
-/// The calls by constants in code as a graph for Graphviz: a node for each routine that is listed, dashed where it is one beside;
-/// `start` for the code that lies in none; and an edge from each routine to each that it calls.
+/// The calls by constants in code as a graph for Graphviz: a node for each routine that is listed, dashed where it is
+/// one beside; `start` for the code that lies in none; and an edge from each routine to each that it calls.
 pub fn code_graph(alloc: Global, facts: &Facts<'_>) -> Result<Vec<u8>, AllocError> {
     let routines = routines_in(alloc, facts.list)?;
     let calls = calls_in(alloc, facts, routines.as_slice())?;

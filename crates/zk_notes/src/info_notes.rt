@@ -29,7 +29,8 @@ fn is_version(bytes: &[u8]) -> bool
     }
 }
 
-/// The version of Inform that compiled a story, by the bytes that the story begins with: a digit, a full stop and two digits, at
+/// The version of Inform that compiled a story, by the bytes that the story begins with: a digit, a full stop and two
+/// digits, at
 /// $3C to $3F; none where something else stands there.
 #[tactic(auto, using(crate::proofs::Versions::short_is_none, crate::proofs::Versions::other_is_none))]
 pub fn compiler_in(header: &[u8]) -> Option<&str>
@@ -83,7 +84,8 @@ const FLAGS_2: [Flag; 8] = [
 /// The bit of the first flags of version 3 that says which status line the story wants.
 const HOURS: u16 = 2;
 
-/// Writes the words of flags that are set, with commas between them, after some that stand there or not; `none` where there are none.
+/// Writes the words of flags that are set, with commas between them, after some that stand there or not; `none` where
+/// there are none.
 fn write_flags(out: &mut Lines, flags: &[Flag], set: u16, first: &str) {
     out.write(b"  ; ");
     out.write(first.as_bytes());
@@ -221,9 +223,10 @@ impl Notes<'_> {
     }
 }
 
-/// Sections of `info` with notes. After the flags of the header stand two spaces, `; ` and what is set, with commas between, or
-/// `none`; after the header's last line stands `compiler Inform 6.12`, where the story has its compiler's version. Abbreviations
-/// one after another with one text are a line, as `0 to 95 "   "  ; 96 alike`. All other lines are as they were.
+/// Sections of `info` with notes. After the flags of the header stand two spaces, `; ` and what is set, with commas
+/// between, or `none`; after the header's last line stands `compiler Inform 6.12`, where the story has its compiler's
+/// version. Abbreviations one after another with one text are a line, as `0 to 95 " " ; 96 alike`. All other lines are
+/// as they were.
 pub fn explain(alloc: Global, facts: &Facts<'_>) -> Result<Vec<u8>, AllocError> {
     let mut notes = Notes {
         out: Lines::new(alloc),

@@ -175,8 +175,9 @@ fn add_parts(out: &mut TextBuilder, map: &Map, end: u64) {
     }
 }
 
-/// The map of a story as a picture, an SVG 1.1 of 900 pixels: a bar with a rectangle for each part, to scale, from its address to
-/// the next one's, and the last to the end of the file; below it each part's address, name and bytes, with a swatch of its fill.
+/// The map of a story as a picture, an SVG 1.1 of 900 pixels: a bar with a rectangle for each part, to scale, from its
+/// address to the next one's, and the last to the end of the file; below it each part's address, name and bytes, with a
+/// swatch of its fill.
 pub fn map_picture(alloc: Global, facts: &Facts<'_>) -> Result<Vec<u8>, AllocError> {
     let map = map_in(alloc, facts)?;
     let end = map.end();

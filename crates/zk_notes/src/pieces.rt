@@ -28,7 +28,8 @@ fn add_piece(out: &mut String, piece: Piece<'_>) -> Result<(), AllocError> {
     }
 }
 
-/// A text that is put together. It remembers whether memory was short, and `finish` tells that: so what adds to it need not.
+/// A text that is put together. It remembers whether memory was short, and `finish` tells that: so what adds to it need
+/// not.
 #[derive(Drop)]
 pub(crate) struct TextBuilder {
     text: String,

@@ -4,14 +4,13 @@ ghost use Rattle.std.specs.Prelude.{◌≡◌, ◌≤◌, true, false, None, Som
 ghost use Rattle.zk_vm.specs.Bounds.{AreInRange};
 ghost use Rattle.zk_vm.specs.Halts.{event_waited};
 ghost use Rattle.zk_vm.specs.Step.{is_read};
+ghost use Rattle.zk_command.specs.Playing.{Work};
 
 use crate::held_prompt::HeldPrompt;
 use std::alloc::{AllocError, Global};
 use std::io::Read;
-use zk_command::about::About;
 use zk_command::exit::Exit;
-use zk_command::opening::open_story;
-use zk_command::playing::{Devices, note_stop};
+use zk_command::playing::{Devices, PlayRequest, note_stop, start};
 use zk_command::report::report;
 use zk_command::settings::Settings;
 use zk_fast::places::Places;
@@ -195,8 +194,9 @@ fn go_on<I: Source, S: Target, T: Target, K: SaveSlot, P: Places>(
     }
 }
 
-/// Plays a story up to its stop, as `zk_vm`'s `play` does, and shows before each read the status line and the rows of the upper
-/// window above the prompt, also those that were taken away since the read before. The machine shows none of them by itself.
+/// Plays a story up to its stop, as `zk_vm`'s `play` does, and shows before each read the status line and the rows of
+/// the upper window above the prompt, also those that were taken away since the read before. The machine shows none of
+/// them by itself.
 pub fn play_with_boxes<I: Source, S: Target, T: Target, K: SaveSlot, P: Places>(
     alloc: Global,
     devices: &mut Devices<I, HeldPrompt<S>, T, K>,
@@ -219,63 +219,64 @@ pub fn play_with_boxes<I: Source, S: Target, T: Target, K: SaveSlot, P: Places>(
     Stop::EndOfInput
 }
 
-/// Plays the story that a reader gives, with the status line and the upper window above the prompt.
-fn play_file_with_boxes<R: Read + Drop, I: Source, S: Target, T: Target, K: SaveSlot, P: Places>(
-    alloc: Global,
-    reader: R,
-    about: &About,
-    settings: Settings,
-    devices: &mut Devices<I, HeldPrompt<S>, T, K>,
-    places: &mut P,
-    width: Option<u8>,
-) -> Exit
-    requires in_range { AreInRange settings.limits }
-    requires screen_works { S.failed devices.old.screen.screen ≡ false }
-    requires script_works { T.failed devices.old.script ≡ false }
-{
-    let story = match open_story(alloc, reader, about) {
-        Ok(story) => story,
-        Err(exit) => return exit,
-    };
-    let Settings { seed, limits, .. } = settings;
-    let mut machine = match Machine::start(alloc, story, seed, limits, View::Plain) {
-        Ok(machine) => machine,
-        Err(_) => return Exit::Stopped(Stop::Memory),
-    };
-    // a write of no bytes makes the script's file before the run
-    let stop = match devices.script.write(&[]) {
-        Err(Failed) => Stop::Write,
-        Ok(_) => play_with_boxes(alloc, devices, &mut machine, places, width),
-    };
-    note_stop(alloc, about, &machine, &stop);
-    Exit::Stopped(stop)
-}
-
-/// Plays the story that a reader gives, with the status line and the upper window above the prompt, reports how that ends,
-/// and answers the program's status.
+/// Plays a story with the status line and the upper window above the prompt, reports how that ends, and answers the
+/// program's status. The machine shows neither by itself.
 pub fn play_with_boxes_and_report<
     R: Read + Drop,
-    I: Source,
-    S: Target,
-    T: Target,
-    K: SaveSlot,
+    I: Source + Drop,
+    S: Target + Drop,
+    T: Target + Drop,
+    K: SaveSlot + Drop,
     P: Places,
     E: Target,
 >(
     alloc: Global,
-    reader: R,
-    about: &About,
-    settings: Settings,
-    devices: &mut Devices<I, HeldPrompt<S>, T, K>,
+    request: PlayRequest<R>,
+    devices: Devices<I, S, T, K>,
     places: &mut P,
     width: Option<u8>,
     errors: &mut E,
 ) -> u8
-    requires in_range { AreInRange settings.limits }
-    requires screen_works { S.failed devices.old.screen.screen ≡ false }
-    requires script_works { T.failed devices.old.script ≡ false }
+    requires in_range { AreInRange request.settings.limits }
+    requires works { Work I.failed S.failed T.failed devices }
     requires errors_work { E.failed errors.old ≡ false }
 {
-    let exit = play_file_with_boxes(alloc, reader, about, settings, devices, places, width);
-    report(alloc, &exit, &settings.limits, about, errors)
+    let Devices {
+        input,
+        screen,
+        script,
+        slot,
+    } = devices;
+    let mut devices = Devices {
+        input,
+        screen: HeldPrompt::new(alloc, screen),
+        script,
+        slot,
+    };
+    let PlayRequest {
+        story,
+        about,
+        settings: Settings { limits, seed, .. },
+    } = request;
+    let settings = Settings {
+        limits,
+        seed,
+        view: View::Plain,
+    };
+    let request = PlayRequest {
+        story,
+        about,
+        settings,
+    };
+    let mut machine = match start(alloc, request) {
+        Ok(machine) => machine,
+        Err(exit) => return report(alloc, &exit, &limits, about, errors),
+    };
+    // a write of no bytes makes the script's file before the run
+    let stop = match devices.script.write(&[]) {
+        Err(Failed) => Stop::Write,
+        Ok(_) => play_with_boxes(alloc, &mut devices, &mut machine, places, width),
+    };
+    note_stop(alloc, about, &machine, &stop);
+    report(alloc, &Exit::Stopped(stop), &limits, about, errors)
 }

@@ -5,7 +5,7 @@ use crate::told::{out_of_memory, tell_last_line, tell_reason};
 use std::alloc::{AllocError, Global};
 use std::{fs, str};
 use zk_command::exit::Exit;
-use zk_command::keeping::keep_list;
+use zk_command::keeping::{Kept, keep};
 use zk_command::shown::Shown;
 use zk_fast::places::{Cover, Places};
 use zk_notes::cover::addresses_in;
@@ -110,13 +110,13 @@ impl<'a> CoverFile<'a> {
         Ok(CoverFile { path, cover })
     }
 
-    /// Writes all that was noted in place of what the file had, and answers the program's status after a play that ended with
-    /// one.
+    /// Writes all that was noted in place of what the file had, and answers the program's status after a play that
+    /// ended with one.
     pub fn write(&self, rt: &HostRuntime, status: u8) -> u8 {
         let Ok(list) = list_of(rt.alloc(), &self.cover) else {
             return out_of_memory(rt);
         };
-        if keep_list(rt, self.path, list.as_slice()) {
+        if keep(rt, self.path, list.as_slice(), Kept::List) {
             return status;
         }
         tell_last_line(rt, &Exit::Stopped(Stop::Write))

@@ -17,16 +17,17 @@ pub fn read_whole(rt: &HostRuntime, path: &str) -> io::Result<Vec<u8>> {
 const FILES_FROM: &str = "--files-from";
 
 /// The path of the list of paths that arguments name, if they name one for a command that takes it.
-fn list_named<'a>(arguments: &[&'a str]) -> Option<&'a str> {
-    match arguments.get(1) {
-        Some(&"info" | &"check" | &"test") => {}
+fn list_named(arguments: &[String]) -> Option<&str> {
+    match arguments.get(1)?.as_str() {
+        "info" | "check" | "test" => {}
         _ => return None,
     }
     for at in 2..arguments.len() {
-        if arguments[at] == FILES_FROM {
-            return arguments.get(at + 1).copied();
+        let argument = arguments[at].as_str();
+        if argument == FILES_FROM {
+            return Some(arguments.get(at + 1)?.as_str());
         }
-        match arguments[at].strip_prefix("--files-from=") {
+        match argument.strip_prefix("--files-from=") {
             Some(path) => return Some(path),
             None => {}
         }
@@ -58,7 +59,7 @@ fn paths_in(rt: &HostRuntime, bytes: &[u8]) -> Result<Vec<String>, AllocError> {
 }
 
 /// The paths of the list that arguments name, if they name one.
-pub fn paths_listed(rt: &HostRuntime, arguments: &[&str]) -> Option<io::Result<Vec<String>>> {
+pub fn paths_listed(rt: &HostRuntime, arguments: &[String]) -> Option<io::Result<Vec<String>>> {
     let path = list_named(arguments)?;
     let bytes = match read_list(rt, path) {
         Ok(bytes) => bytes,
@@ -104,8 +105,8 @@ fn is_followed(rt: &HostRuntime, path: &str, named: &str) -> bool {
     path == named || is_folder(fs::symlink_metadata(rt, path))
 }
 
-/// Adds the files in a folder and in its folders, each folder's by their names in the order of their bytes, and tells of a
-/// folder that can't be read. Whether all could be read.
+/// Adds the files in a folder and in its folders, each folder's by their names in the order of their bytes, and tells
+/// of a folder that can't be read. Whether all could be read.
 fn add_files(rt: &HostRuntime, folder: &str, files: &mut Vec<String>) -> io::Result<bool> {
     let mut all = true;
     let mut pile = Vec::new(rt.alloc());

@@ -9,8 +9,8 @@ use zk_term::target::{Failed, Target, write_all};
 /// So many bytes are held back, and then no more.
 const MOST_HELD: usize = 65_536;
 
-/// A target over a screen, which holds the open line back, so that something can be shown above it. Where the line is very
-/// long, or there is no memory for it, it goes out.
+/// A target over a screen, which holds the open line back, so that something can be shown above it. Where the line is
+/// very long, or there is no memory for it, it goes out.
 #[derive(Drop)]
 pub struct HeldPrompt<S> {
     screen: S,

@@ -2,7 +2,7 @@
 #![tactic(auto)]
 
 pub mod boxes;
-mod cover;
+pub mod cover;
 mod facts;
 pub mod files;
 mod held_prompt;

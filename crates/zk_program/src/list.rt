@@ -5,7 +5,7 @@ ghost use Rattle.std.specs.Prelude.{◌≡◌, false};
 use crate::facts::list_facts;
 use crate::files::files_of;
 use crate::play::screen_of;
-use crate::readable::{Request, list_counts, list_readable};
+use crate::readable::{ListRequest, list_counts, list_readable};
 use crate::roots::{CodeRoots, code_roots};
 use crate::told::out_of_memory;
 use std::fs::File;
@@ -37,7 +37,7 @@ fn list<'a>(rt: &HostRuntime, path: &'a str, heading: Option<&'a str>, listing: 
 fn list_one_of_several(
     rt: &HostRuntime,
     path: &str,
-    request: &Request<'_>,
+    request: &ListRequest<'_>,
     counts: &mut Counts,
     counted: bool,
 ) -> u8 {
@@ -56,7 +56,7 @@ fn list_one<'a>(
     rt: &HostRuntime,
     path: &'a str,
     heading: Option<&'a str>,
-    request: &Request<'_>,
+    request: &ListRequest<'_>,
     counts: &mut Counts,
     counted: bool,
 ) -> u8 {
@@ -80,7 +80,7 @@ struct Several<'a> {
 fn list_each(
     rt: &HostRuntime,
     several: Several<'_>,
-    request: &Request<'_>,
+    request: &ListRequest<'_>,
     counts: &mut Counts,
 ) -> u8 {
     let mut status = 0;
@@ -100,7 +100,7 @@ fn list_each(
 fn list_folders(
     rt: &HostRuntime,
     paths: Several<'_>,
-    request: &Request<'_>,
+    request: &ListRequest<'_>,
     counts: &mut Counts,
 ) -> u8 {
     let Ok(files) = files_of(rt, paths.stories) else {
@@ -122,13 +122,13 @@ fn list_folders(
     if files.all { status } else { status.max(4) }
 }
 
-/// Lists the stories that paths name, and counts their findings. Those of a list and in folders are counted at a terminal that
-/// does not show the listing.
+/// Lists the stories that paths name, and counts their findings. Those of a list and in folders are counted at a
+/// terminal that does not show the listing.
 fn list_paths(
     rt: &HostRuntime,
     paths: &[&str],
     options: ShowOptions,
-    request: &Request<'_>,
+    request: &ListRequest<'_>,
     listed: bool,
     counts: &mut Counts,
 ) -> u8 {
@@ -165,8 +165,12 @@ fn with_roots<'a>(listing: Listing<'_>, roots: &'a CodeRoots) -> Listing<'a> {
 }
 
 /// What is asked of each story, by options and by the roots of code.
-fn request_of<'a>(roots: &'a CodeRoots, options: ShowOptions, listing: Listing<'_>) -> Request<'a> {
-    Request {
+fn request_of<'a>(
+    roots: &'a CodeRoots,
+    options: ShowOptions,
+    listing: Listing<'_>,
+) -> ListRequest<'a> {
+    ListRequest {
         listing: with_roots(listing, roots),
         form: options.form,
         notes: options.notes,

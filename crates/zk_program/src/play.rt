@@ -1,39 +1,34 @@
 // Playing a story from its file.
 
-ghost use Rattle.std.specs.Prelude.{◌≡◌, false};
+ghost use Rattle.std.specs.Prelude.{◌≡◌, false, IfOk};
 ghost use Rattle.zk_vm.specs.Bounds.{AreInRange};
-ghost use Rattle.zk_command.specs.Playing.{Work};
 
 use crate::boxes::play_with_boxes_and_report;
 use crate::cover::{CoverFile, cover_at};
-use crate::held_prompt::HeldPrompt;
 use crate::told::{out_of_memory, tell_exit, tell_last_line, tell_reason};
-use std::alloc::Global;
 use std::fs::{self, File};
 use std::io;
 use zk_command::about::About;
-use zk_command::asking::{Asker, Screen, Typed};
+use zk_command::asking::{Asker, StandardOutput, TypedInput};
 use zk_command::exit::Exit;
 use zk_command::paged::Paged;
-use zk_command::playing::{Devices, play_and_report};
+use zk_command::playing::{Devices, PlayRequest, play_and_report};
 use zk_command::record::{Record, write_record_heading};
-use zk_command::save_file::{Place, SaveFile};
+use zk_command::save_file::{SaveFile, SavePlace};
 use zk_command::script::ScriptFile;
 use zk_command::settings::{Amount, PlayOptions, Settings};
 use zk_command::shown::Shown;
 use zk_command::terminal::{columns, is_typed_at, lines, seed_of_clock};
 use zk_command::watched::Watched;
-use zk_fast::places::{Places, Unnoted};
+use zk_fast::places::Unnoted;
 use zk_term::echo::Echo;
 use zk_term::io_device::IoDevice;
-use zk_term::source::Source;
-use zk_term::target::{Failed, Target};
+use zk_term::target::Failed;
 use zk_term::wrapped::Wrapped;
-use zk_vm::slot::SaveSlot;
 use zk_vm::stop::Stop;
 
 /// Standard output.
-pub fn screen_of<'a>(rt: &'a HostRuntime, about: &'a About) -> Screen<'a>
+pub fn screen_of<'a>(rt: &'a HostRuntime, about: &'a About) -> StandardOutput<'a>
     ensures { result.failed ≡ false }
 {
     IoDevice::new(Watched::new(io::writer(rt), &about.screen))
@@ -47,7 +42,7 @@ fn typed<'a>(
     record: Option<&'a File>,
     bytewise: bool,
     echo: bool,
-) -> Typed<'a>
+) -> TypedInput<'a>
     ensures { result.input.input.failed ≡ false }
 {
     let input = IoDevice::new(Watched::new(rt.stdin(), &about.input));
@@ -157,140 +152,12 @@ fn begin_record(
 }
 
 /// Where saved games are kept, by options.
-fn place_of<'a>(options: &PlayOptions<'a>) -> Option<Place<'a>> {
+fn place_of<'a>(options: &PlayOptions<'a>) -> Option<SavePlace<'a>> {
     match (options.saves, options.save) {
-        (Some(folder), _) => Some(Place::Folder(folder)),
-        (None, Some(path)) => Some(Place::File(path)),
+        (Some(folder), _) => Some(SavePlace::Folder(folder)),
+        (None, Some(path)) => Some(SavePlace::File(path)),
         (None, None) => None,
     }
-}
-
-/// Whether no byte of another line may be read ahead: a question has its answer by a read of its own, and a record has
-/// what was read alone.
-fn is_bytewise(options: &PlayOptions) -> bool {
-    options.recorded.is_some() || options.saves.is_some()
-}
-
-/// What is typed, as options say.
-fn input_by<'a>(
-    rt: &'a HostRuntime,
-    about: &'a About,
-    options: &PlayOptions,
-    record: Option<&'a File>,
-) -> Typed<'a>
-    ensures { result.input.input.failed ≡ false }
-{
-    typed(rt, about, record, is_bytewise(options), options.echo)
-}
-
-/// The screen, as options say.
-fn screen_by<'a>(
-    rt: &'a HostRuntime,
-    about: &'a About,
-    options: &PlayOptions,
-    width: Option<u8>,
-) -> Wrapped<Paged<'a, Screen<'a>>>
-    ensures { result.inner.screen.failed ≡ false }
-{
-    let asker = Asker::new(rt, typed(rt, about, None, false, false));
-    let paged = Paged::new(screen_of(rt, about), asker, page_by(rt, options.page));
-    Wrapped::new(paged, width)
-}
-
-/// Whether the status line and the upper window are shown above the prompt, and in how many columns.
-#[derive(Clone, Copy, Drop)]
-struct Boxes {
-    shown: bool,
-    width: Option<u8>,
-}
-
-/// Plays the story in an open file on devices, with boxes or without, and answers the program's status.
-fn play_shown<
-    I: Source + Drop,
-    S: Target + Drop,
-    T: Target + Drop,
-    K: SaveSlot + Drop,
-    P: Places,
-    E: Target,
->(
-    alloc: Global,
-    file: File,
-    about: &About,
-    settings: Settings,
-    devices: Devices<I, S, T, K>,
-    boxes: Boxes,
-    places: &mut P,
-    errors: &mut E,
-) -> u8
-    requires in_range { AreInRange settings.limits }
-    requires works { Work I.failed S.failed T.failed devices }
-    requires errors_work { E.failed errors.old ≡ false }
-{
-    let mut devices = devices;
-    if !boxes.shown {
-        return play_and_report(alloc, file, about, settings, &mut devices, places, errors);
-    }
-    let Devices {
-        input,
-        screen,
-        script,
-        slot,
-    } = devices;
-    let mut devices = Devices {
-        input,
-        screen: HeldPrompt::new(alloc, screen),
-        script,
-        slot,
-    };
-    play_with_boxes_and_report(
-        alloc,
-        file,
-        about,
-        settings,
-        &mut devices,
-        places,
-        boxes.width,
-        errors,
-    )
-}
-
-/// Plays the story in an open file as options say, with its lines recorded where there is a file for them, and a name that
-/// is offered for saved games, and answers the program's status.
-fn play_on<'a, P: Places>(
-    rt: &'a HostRuntime,
-    file: File,
-    about: &'a About<'a>,
-    options: &PlayOptions<'a>,
-    settings: Settings,
-    width: Option<u8>,
-    record: Option<&'a File>,
-    offered: String,
-    places: &mut P,
-) -> u8
-    requires in_range { AreInRange settings.limits }
-{
-    let asker = Asker::new(rt, input_by(rt, about, options, record));
-    let devices = Devices {
-        input: input_by(rt, about, options, record),
-        screen: screen_by(rt, about, options, width),
-        script: ScriptFile::new(rt, options.script, &about.script),
-        slot: SaveFile::new(rt, place_of(options), asker, offered),
-    };
-    let mut errors = IoDevice::new(rt.stderr());
-    let boxes = Boxes {
-        shown: options.boxes,
-        width,
-    };
-    play_shown(
-        rt.alloc(),
-        file,
-        about,
-        settings,
-        devices,
-        boxes,
-        places,
-        &mut errors,
-    )
 }
 
 /// Makes the file of a record where options name one. Where it can't be made the reason is told.
@@ -313,76 +180,132 @@ fn record_of(
     }
 }
 
-/// Plays the story in an open file as options say, notes where its instructions stand where there is a file for that, and
-/// answers the program's status.
-fn play_covered<'a>(
-    rt: &'a HostRuntime,
-    file: File,
-    about: &'a About<'a>,
-    options: &PlayOptions<'a>,
+/// A play that is asked for, with its files open.
+#[derive(Drop)]
+pub struct OpenPlay<'a> {
+    story: File,
+    about: About<'a>,
+    options: PlayOptions<'a>,
     settings: Settings,
+    /// The columns of the screen's lines, where they are wrapped.
     width: Option<u8>,
-    record: Option<&'a File>,
-    offered: String,
-    covered: Option<CoverFile<'a>>,
-) -> u8
-    requires in_range { AreInRange settings.limits }
-{
-    let Some(mut covered) = covered else {
-        let places = &mut Unnoted;
-        return play_on(
-            rt, file, about, options, settings, width, record, offered, places,
-        );
-    };
-    let places = &mut covered.cover;
-    let status = play_on(
-        rt, file, about, options, settings, width, record, offered, places,
-    );
-    covered.write(rt, status)
+    /// The file that gets the lines that are read.
+    record: Option<File>,
 }
 
-/// Plays the story in a file as options say, and answers the program's status.
-pub fn play<'a>(rt: &HostRuntime, story: &'a str, options: &PlayOptions<'a>) -> u8
-    requires { AreInRange options.now.limits }
+impl<'a> OpenPlay<'a> {
+    /// Opens the files of a play, the story's first, and finds what its coverage file has; or answers the program's
+    /// status, where it is told why one can't be opened.
+    pub fn new(
+        rt: &HostRuntime,
+        path: &'a str,
+        options: PlayOptions<'a>,
+    ) -> Result<(OpenPlay<'a>, Option<CoverFile<'a>>), u8>
+        requires { AreInRange options.limits }
+        ensures { IfOk result (λ opened. AreInRange opened.0.settings.limits) }
+    {
+        let about = About {
+            tells_calls: options.calls,
+            ..About::new(path, options.script.unwrap_or(""))
+        };
+        let settings = Settings {
+            limits: options.limits,
+            seed: seed_by(rt, options.seed),
+            view: options.view,
+        };
+        let story = match File::open(rt, path) {
+            Ok(story) => story,
+            Err(error) => return Err(tell_exit(rt, &Exit::Unread(error), &about)),
+        };
+        let cover = cover_at(rt, options.cover, path)?;
+        let width = width_by(rt, options.width);
+        let Ok(record) = record_of(rt, path, &options, &settings, width) else {
+            return Err(tell_last_line(rt, &Exit::Stopped(Stop::Write)));
+        };
+        let opened = OpenPlay {
+            story,
+            about,
+            options,
+            settings,
+            width,
+            record,
+        };
+        Ok((opened, cover))
+    }
+
+    /// What is typed, as options say. No byte of another line may be read ahead where a question has its answer by a
+    /// read of its own, or where a record has what was read alone.
+    fn input<'r>(&'r self, rt: &'r HostRuntime) -> TypedInput<'r>
+        ensures { result.input.input.failed ≡ false }
+    {
+        let options = &self.options;
+        let bytewise = options.recorded.is_some() || options.saves.is_some();
+        typed(
+            rt,
+            &self.about,
+            self.record.as_ref(),
+            bytewise,
+            options.echo,
+        )
+    }
+
+    /// The screen, as options say.
+    fn screen<'r>(&'r self, rt: &'r HostRuntime) -> Wrapped<Paged<'r, StandardOutput<'r>>>
+        ensures { result.inner.screen.failed ≡ false }
+    {
+        let asker = Asker::new(rt, typed(rt, &self.about, None, false, false));
+        let page = page_by(rt, self.options.page);
+        let paged = Paged::new(screen_of(rt, &self.about), asker, page);
+        Wrapped::new(paged, self.width)
+    }
+
+    /// Tells why the lines that were read could not be recorded, where that is so.
+    fn tell_unrecorded(&self, rt: &HostRuntime) {
+        if let (Some(error), Some(path)) = (self.about.record.failure(), self.options.recorded) {
+            tell_reason(rt, path, &error);
+        }
+    }
+}
+
+/// Plays a story whose files are open, and answers the program's status. Where its instructions stand goes to its
+/// coverage file, if there is one.
+pub fn play<'r>(rt: &'r HostRuntime, opened: &'r OpenPlay<'r>, cover: Option<CoverFile<'r>>) -> u8
+    requires { AreInRange opened.now.settings.limits }
 {
-    let options = *options;
-    let Ok(offered) = name_offered(rt, story) else {
+    let options = &opened.options;
+    let Ok(offered) = name_offered(rt, opened.about.path) else {
         return out_of_memory(rt);
     };
-    let about = About {
-        tells_calls: options.calls,
-        ..About::new(story, options.script.unwrap_or(""))
+    let names = Asker::new(rt, opened.input(rt));
+    let mut devices = Devices {
+        input: opened.input(rt),
+        screen: opened.screen(rt),
+        script: ScriptFile::new(rt, options.script, &opened.about.script),
+        slot: SaveFile::new(rt, place_of(options), names, offered),
     };
-    let settings = Settings {
-        limits: options.limits,
-        seed: seed_by(rt, options.seed),
-        view: options.view,
+    let request = PlayRequest {
+        story: &opened.story,
+        about: &opened.about,
+        settings: opened.settings,
     };
-    let file = match File::open(rt, story) {
-        Ok(file) => file,
-        Err(error) => return tell_exit(rt, &Exit::Unread(error), &about),
+    let alloc = rt.alloc();
+    let width = opened.width;
+    let errors = &mut IoDevice::new(rt.stderr());
+    let status = match cover {
+        None if options.boxes => {
+            play_with_boxes_and_report(alloc, request, devices, &mut Unnoted, width, errors)
+        }
+        None => play_and_report(alloc, request, &mut devices, &mut Unnoted, errors),
+        Some(mut cover) => {
+            let places = &mut cover.cover;
+            let status = if options.boxes {
+                play_with_boxes_and_report(alloc, request, devices, places, width, errors)
+            } else {
+                play_and_report(alloc, request, &mut devices, places, errors)
+            };
+            cover.write(rt, status)
+        }
     };
-    let covered = match cover_at(rt, options.cover, story) {
-        Ok(covered) => covered,
-        Err(status) => return status,
-    };
-    let width = width_by(rt, options.width);
-    let Ok(record) = record_of(rt, story, &options, &settings, width) else {
-        return tell_last_line(rt, &Exit::Stopped(Stop::Write));
-    };
-    let status = play_covered(
-        rt,
-        file,
-        &about,
-        &options,
-        settings,
-        width,
-        record.as_ref(),
-        offered,
-        covered,
-    );
-    if let (Some(error), Some(path)) = (about.record.failure(), options.recorded) {
-        tell_reason(rt, path, &error);
-    }
+    opened.tell_unrecorded(rt);
     status
 }

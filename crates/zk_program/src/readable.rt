@@ -26,7 +26,7 @@ use zk_vm::stop::Stop;
 
 /// What is asked of each story.
 #[derive(Clone, Copy, Drop)]
-pub struct Request<'a> {
+pub struct ListRequest<'a> {
     pub listing: Listing<'a>,
     pub form: Form,
     /// Whether notes stand beside what is listed.
@@ -35,7 +35,7 @@ pub struct Request<'a> {
     pub covered: Option<&'a [u32]>,
 }
 
-impl<'a> Request<'a> {
+impl<'a> ListRequest<'a> {
     /// Whether the listing is shown as it is written.
     pub fn is_plain(&self) -> bool {
         match (self.form, self.listing) {
@@ -67,7 +67,7 @@ impl<'a> Request<'a> {
 fn shown_text(
     rt: &HostRuntime,
     facts: &Facts<'_>,
-    request: &Request<'_>,
+    request: &ListRequest<'_>,
 ) -> Result<Vec<u8>, AllocError> {
     match (request.form, request.listing) {
         (Form::Graph, Listing::Code(_)) => code_graph(rt.alloc(), facts),
@@ -103,7 +103,7 @@ fn write_shown(
     rt: &HostRuntime,
     about: &About,
     facts: &Facts<'_>,
-    request: &Request<'_>,
+    request: &ListRequest<'_>,
 ) -> Result<Result<(), Failed>, AllocError> {
     if let Listing::Code(code) = request.listing {
         tell_missing(rt, facts, &code)?;
@@ -116,13 +116,13 @@ fn write_shown(
     }
 }
 
-/// Lists the story in a file in memory, and shows what is made of that, below its path where it is one of several; and counts
-/// its findings. Answers the program's status.
+/// Lists the story in a file in memory, and shows what is made of that, below its path where it is one of several; and
+/// counts its findings. Answers the program's status.
 pub fn list_readable<'a>(
     rt: &HostRuntime,
     path: &'a str,
     heading: Option<&'a str>,
-    request: &Request<'_>,
+    request: &ListRequest<'_>,
     counts: &mut Counts,
 ) -> u8 {
     let about = About::listed(path, heading);
@@ -146,8 +146,8 @@ pub fn list_readable<'a>(
     report_listing(rt.alloc(), &exit, &about, &mut IoDevice::new(rt.stderr()))
 }
 
-/// Writes how many findings of each kind stories have, and answers the program's status: that of the listings, unless the
-/// write fails.
+/// Writes how many findings of each kind stories have, and answers the program's status: that of the listings, unless
+/// the write fails.
 pub fn list_counts(rt: &HostRuntime, counts: &Counts, status: u8) -> u8 {
     let Ok(text) = counts.text(rt.alloc()) else {
         return out_of_memory(rt);

@@ -16,8 +16,8 @@ pub struct CodeRoots {
     pub covered: Option<Vec<u32>>,
 }
 
-/// Adds the addresses that texts say in hexadecimal digits, or answers the program's status, where it is told which text
-/// says none.
+/// Adds the addresses that texts say in hexadecimal digits, or answers the program's status, where it is told which
+/// text says none.
 fn add_said(rt: &HostRuntime, addresses: &mut Vec<u32>, texts: &[&str]) -> Result<(), u8> {
     for text in texts {
         let Ok(address) = u32::from_str_radix(text, 16) else {

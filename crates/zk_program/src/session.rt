@@ -100,23 +100,23 @@ impl Source for Commands<'_> {
 
 /// The screen of a play in memory.
 #[derive(Drop)]
-pub struct Shown<'a> {
+pub struct SessionScreen<'a> {
     session: &'a Session,
     failed: bool,
 }
 
-impl<'a> Shown<'a> {
-    pub fn new(session: &'a Session) -> Shown<'a>
+impl<'a> SessionScreen<'a> {
+    pub fn new(session: &'a Session) -> SessionScreen<'a>
         ensures { result.failed ≡ false }
     {
-        Shown {
+        SessionScreen {
             session,
             failed: false,
         }
     }
 }
 
-impl Target for Shown<'_> {
+impl Target for SessionScreen<'_> {
     ghost use Rattle.std.specs.Prelude.{◌≡◌, None, true};
 
     ghost taken = { λ _. None };

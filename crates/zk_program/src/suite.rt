@@ -1,19 +1,17 @@
 // Playing walkthroughs, and comparing what they show with their transcripts.
 
-ghost use Rattle.std.specs.Prelude.{◌≡◌, IfSome, false};
+ghost use Rattle.std.specs.Prelude.{◌≡◌, IfOk, false};
 ghost use Rattle.zk_vm.specs.Bounds.{AreInRange};
 
 use crate::files::{files_of, read_whole};
-use crate::session::{Commands, MemorySlot, Session, Shown as ShownText};
+use crate::session::{Commands, MemorySlot, Session, SessionScreen};
 use crate::told::tell_reason;
-use std::alloc::AllocError;
 use std::fs::File;
 use std::io::{self, ErrorKind, Write};
 use zk_command::about::About;
-use zk_command::choice::{Choice, choose};
-use zk_command::playing::{Devices, play_and_report};
+use zk_command::manner::Manner;
+use zk_command::playing::{Devices, PlayRequest, play_and_report};
 use zk_command::reason::Reason;
-use zk_command::settings::{Amount, PlayOptions, Settings};
 use zk_command::shown::Shown;
 use zk_fast::places::Unnoted;
 use zk_suite::difference::Difference;
@@ -28,9 +26,6 @@ use zk_term::wrapped::Wrapped;
 const WALKTHROUGH: &str = ".walkthrough";
 
 const TRANSCRIPT: &str = ".transcript";
-
-/// The settings that a walkthrough may have beside its story: options of a play.
-const SETTINGS: [&str; 7] = ["seed", "frames", "words", "undo", "steps", "upper", "width"];
 
 /// So many lines of an answer are shown.
 const SHOWN_LINES: usize = 12;
@@ -49,13 +44,6 @@ pub struct Testing<'a> {
 struct OpenStory<'a> {
     path: &'a str,
     file: File,
-}
-
-/// In which settings a walkthrough is played, and how many columns its lines have.
-#[derive(Clone, Copy, Drop)]
-struct Manner {
-    settings: Settings,
-    width: Option<u8>,
 }
 
 /// A walkthrough that was played.
@@ -112,53 +100,6 @@ fn fail_by(rt: &HostRuntime, path: &str, file: &str, error: &io::Error) -> io::R
     Ok(false)
 }
 
-/// Whether a walkthrough may have a setting of a name.
-fn is_setting(key: &[u8]) -> bool {
-    key == b"story".as_slice() || SETTINGS.iter().any(|setting| setting.as_bytes() == key)
-}
-
-/// The first name among settings that is none, if there is one.
-fn unknown_setting<'a>(settings: &[(&'a [u8], &'a [u8])]) -> Option<&'a [u8]> {
-    for (key, _) in settings {
-        if !is_setting(key) {
-            return Some(key);
-        }
-    }
-    None
-}
-
-/// Says that a test has failed, since there is no setting of a name.
-fn fail_setting(rt: &HostRuntime, path: &str, key: &[u8]) -> io::Result<bool> {
-    let key = String::from_utf8_lossy(rt.alloc(), key)?;
-    println!(rt;
-        "FAILED {}: there is no setting '{}'",
-        Shown(path),
-        Shown(key.as_str())
-    )?;
-    Ok(false)
-}
-
-/// An argument of `play` that is a setting: a flag, or an option with its value.
-fn argument_by(rt: &HostRuntime, key: &[u8], value: &[u8]) -> io::Result<String> {
-    if key == b"upper".as_slice() {
-        return Ok(String::from_str(rt.alloc(), "--upper")?);
-    }
-    let key = String::from_utf8_lossy(rt.alloc(), key)?;
-    let value = String::from_utf8_lossy(rt.alloc(), value)?;
-    Ok(format!(in rt.alloc(); "--{key}={value}")?)
-}
-
-/// The arguments of `play` that settings are, beside the story.
-fn arguments_of(rt: &HostRuntime, settings: &[(&[u8], &[u8])]) -> io::Result<Vec<String>> {
-    let mut arguments = Vec::new(rt.alloc());
-    for (key, value) in settings {
-        if *key != b"story".as_slice() {
-            arguments.push(argument_by(rt, key, value)?)?;
-        }
-    }
-    Ok(arguments)
-}
-
 /// Plays commands on a story, and keeps what it shows.
 fn play_commands(rt: &HostRuntime, story: OpenStory, manner: Manner, commands: &[u8]) -> Played
     requires { AreInRange manner.settings.limits }
@@ -196,47 +137,23 @@ fn play_in(
     let mut devices = Devices {
         input: Echo::new(
             Commands::new(session, commands),
-            ShownText::new(session),
+            SessionScreen::new(session),
             true,
         ),
-        screen: Wrapped::new(ShownText::new(session), width),
+        screen: Wrapped::new(SessionScreen::new(session), width),
         script: Nothing,
         slot: MemorySlot::new(rt.alloc()),
     };
-    play_and_report(
-        rt.alloc(),
-        file,
-        &about,
+    let request = PlayRequest {
+        story: file,
+        about: &about,
         settings,
-        &mut devices,
-        &mut Unnoted,
-        errors,
-    )
+    };
+    play_and_report(rt.alloc(), request, &mut devices, &mut Unnoted, errors)
 }
 
-/// The manner of a play by options. There is none where the program would have to find a number.
-fn manner_by(options: &PlayOptions) -> Option<Manner>
-    requires { AreInRange options.now.limits }
-    ensures { IfSome result (λ m. AreInRange m.settings.limits) }
-{
-    let Amount::Number(seed) = options.seed else {
-        return None;
-    };
-    let width = match options.width {
-        None => None,
-        Some(Amount::Number(columns)) => Some(u8::try_from(columns).ok()?),
-        Some(Amount::Found) => return None,
-    };
-    let settings = Settings {
-        limits: options.limits,
-        seed,
-        view: options.view,
-    };
-    Some(Manner { settings, width })
-}
-
-/// The answer to the last of so many commands: the text after it, up to where the next one is asked for. The text before
-/// the first one is that to none. There is no answer where the command was not asked for.
+/// The answer to the last of so many commands: the text after it, up to where the next one is asked for. The text
+/// before the first one is that to none. There is no answer where the command was not asked for.
 fn answer_to<'a>(played: &'a Played, commands: &[u8], count: usize) -> Option<&'a [u8]> {
     let end = match played.asked.get(count) {
         Some(end) => *end,
@@ -332,8 +249,8 @@ fn write_transcript(
     }
 }
 
-/// Looks whether what was shown is what a transcript has, or writes one where that is asked for. Where there are checks no
-/// transcript is needed.
+/// Looks whether what was shown is what a transcript has, or writes one where that is asked for. Where there are checks
+/// no transcript is needed.
 fn judge(
     rt: &HostRuntime,
     path: &str,
@@ -403,59 +320,48 @@ fn test_on(
     )
 }
 
-/// The command line by which a story is played with arguments.
-fn command_line<'a>(
-    rt: &HostRuntime,
-    arguments: &'a [String],
-    story: &'a str,
-) -> Result<Vec<&'a str>, AllocError> {
-    let mut line = Vec::new(rt.alloc());
-    line.push("zkit")?;
-    line.push("play")?;
-    for argument in arguments {
-        line.push(argument.as_str())?;
-    }
-    line.push("--")?;
-    line.push(story)?;
-    Ok(line)
+/// Whether one of some settings has a name.
+fn has_setting(settings: &[(&[u8], &[u8])], name: &[u8]) -> bool {
+    settings.iter().any(|(other, _)| *other == name)
 }
 
-/// The options that a command line says for a play; what is wrong with it is told on standard error.
-fn options_of<'a>(rt: &HostRuntime, line: &'a [&'a str]) -> Option<PlayOptions<'a>>
-    ensures { IfSome result (λ o. AreInRange o.limits) }
+/// Takes a setting of a play, unless it is that of the story; or tells what is wrong with it.
+fn set(
+    rt: &HostRuntime,
+    manner: &mut Manner,
+    name: &[u8],
+    text: &[u8],
+) -> io::Result<Option<String>>
+    requires { AreInRange manner.old.settings.limits }
+    ensures { AreInRange manner.new.settings.limits }
 {
-    match choose(rt.alloc(), line) {
-        Ok(Choice::Play { options, .. }) => Some(options),
-        Ok(_) => None,
-        Err(error) => {
-            let _ = error.print(rt);
-            None
-        }
+    let name = String::from_utf8_lossy(rt.alloc(), name)?;
+    let text = String::from_utf8_lossy(rt.alloc(), text)?;
+    if name.as_str() == "story" {
+        return Ok(None);
+    }
+    match manner.set(name.as_str(), text.as_str()) {
+        Ok(()) => Ok(None),
+        Err(error) => Ok(Some(format!(in rt.alloc(); "setting '{name}': {error}")?)),
     }
 }
 
-/// Tests a walkthrough on a story, by the command line of its play.
-fn test_by(
-    rt: &HostRuntime,
-    path: &str,
-    walkthrough: &Walkthrough,
-    story: &str,
-    line: &[&str],
-    bless: bool,
-) -> io::Result<bool> {
-    let Some(options) = options_of(rt, line) else {
-        return fail(rt, path, "its settings are not understood");
-    };
-    let Some(manner) = manner_by(&options) else {
-        return fail(rt, path, "a test needs a fixed seed and width");
-    };
-    match File::open(rt, story) {
-        Ok(file) => {
-            let story = OpenStory { path: story, file };
-            test_on(rt, path, walkthrough, story, manner, bless)
+/// The manner of a play by settings, beside the story; or what is wrong with one of these.
+fn manner_by(rt: &HostRuntime, settings: &[(&[u8], &[u8])]) -> io::Result<Result<Manner, String>>
+    ensures { IfOk result (λ r. IfOk r (λ m. AreInRange m.settings.limits)) }
+{
+    let mut manner = Manner::new();
+    for at in 0..settings.len() {
+        let (name, text) = settings[at];
+        if has_setting(&settings[..at], name) {
+            let name = String::from_utf8_lossy(rt.alloc(), name)?;
+            return Ok(Err(format!(in rt.alloc(); "setting '{name}' stands twice")?));
         }
-        Err(error) => fail_by(rt, path, story, &error),
+        if let Some(reason) = set(rt, &mut manner, name, text)? {
+            return Ok(Err(reason));
+        }
     }
+    Ok(Ok(manner))
 }
 
 /// Tests a walkthrough on a story, by its settings.
@@ -467,12 +373,17 @@ fn test_with(
     bless: bool,
 ) -> io::Result<bool> {
     let settings = walkthrough.settings(rt.alloc())?;
-    if let Some(key) = unknown_setting(settings.as_slice()) {
-        return fail_setting(rt, path, key);
+    let manner = match manner_by(rt, settings.as_slice())? {
+        Ok(manner) => manner,
+        Err(reason) => return fail(rt, path, reason.as_str()),
+    };
+    match File::open(rt, story) {
+        Ok(file) => {
+            let story = OpenStory { path: story, file };
+            test_on(rt, path, walkthrough, story, manner, bless)
+        }
+        Err(error) => fail_by(rt, path, story, &error),
     }
-    let arguments = arguments_of(rt, settings.as_slice())?;
-    let line = command_line(rt, arguments.as_slice(), story)?;
-    test_by(rt, path, walkthrough, story, line.as_slice(), bless)
 }
 
 /// The path of a walkthrough's story, if it has one: as it says from its own folder, or as the command says.
@@ -530,8 +441,8 @@ fn test_each(
     Ok((passed, failed))
 }
 
-/// Tests the walkthroughs that paths name, and those in folders, and answers the program's status: 1 where one has failed,
-/// or there is none.
+/// Tests the walkthroughs that paths name, and those in folders, and answers the program's status: 1 where one has
+/// failed, or there is none.
 fn test_paths(rt: &HostRuntime, paths: &[&str], testing: Testing) -> io::Result<u8> {
     let files = files_of(rt, paths)?;
     let (passed, failed) = test_each(rt, files.paths.as_slice(), paths, testing)?;

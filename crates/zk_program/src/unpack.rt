@@ -22,8 +22,8 @@ fn write_new(rt: &HostRuntime, path: &str, bytes: &[u8]) -> io::Result<()> {
     written
 }
 
-/// Writes the story of a Blorb file to a file that is not there yet, and answers the program's status: 1 where it has no
-/// story, and 4 where a file can't be read or written.
+/// Writes the story of a Blorb file to a file that is not there yet, and answers the program's status: 1 where it has
+/// no story, and 4 where a file can't be read or written.
 pub fn unpack(rt: &HostRuntime, path: &str, out: &str) -> u8 {
     let bytes = match read_whole(rt, path) {
         Ok(bytes) => bytes,

@@ -1,6 +1,7 @@
 -- What is packed comes back, and is short.
 use Rattle.std.specs.Prelude.{replicate}
-use Rattle.std.proofs.Common.{◌≡◌, ℕ, suc, zero, ◌+◌, ◌-◌, ◌*◌, ◌/◌, ◌%◌, ◌≤◌, List, [], ◌∷◌, ◌++◌, length, Option, Some, None, refl, ap, sym, ◌∙◌, arith, append_assoc, add-one, length-append}
+use Rattle.std.proofs.Common.{◌≡◌, ℕ, suc, zero, ◌+◌, ◌-◌, ◌*◌, ◌/◌, ◌%◌, ◌≤◌, List, [], ◌∷◌, ◌++◌, length, Option}
+use Rattle.std.proofs.Common.{Some, None, refl, ap, sym, ◌∙◌, arith, append_assoc, add-one, length-append}
 use Rattle.std.specs.Int.Bits.{xor_zero_l, xor_comm, xor_assoc, xor_self}
 use Rattle.std.specs.Prelude.{bit_xor}
 use Rattle.std.proofs.lemmas.List.{append-nil, length-replicate, replicate-append-replicate, replicate_more}
@@ -27,7 +28,8 @@ unfolding pairs
 given_pairs zero cs = elim (given cs) as (λ o. o ≡ before [] o) [ None ↦ refl | Some ys ↦ refl ]
 given_pairs (suc q) cs =
     let total : 256 + 256 * q ≡ 256 * suc q = omega arith in
-    let joined : nulls 256 ++ nulls (256 * q) ≡ nulls (256 * suc q) = replicate-append-replicate 256 (256 * q) 0 ∙ ap nulls total in
+    let joined : nulls 256 ++ nulls (256 * q) ≡ nulls (256 * suc q) = replicate-append-replicate 256 (256 * q) 0
+    ∙ ap nulls total in
     rw (given_pair 255 (pairs q ++ cs), given_pairs q cs, before-before, ← joined) refl
 
 given_last : (r : ℕ) (cs : List ℕ) → given (last_pair r ++ cs) ≡ before (replicate r 0) (given cs)
@@ -38,8 +40,15 @@ given_zeros : (z : ℕ) (cs : List ℕ) → given (spelled (Zeros z) ++ cs) ≡ 
 unfolding spelled
 given_zeros z cs =
     let total : 256 * (z / 256) + z % 256 ≡ z = omega arith in
-    let joined : nulls (256 * (z / 256)) ++ nulls (z % 256) ≡ nulls z = replicate-append-replicate (256 * (z / 256)) (z % 256) 0 ∙ ap nulls total in
-    rw (append_assoc, given_pairs (z / 256) (last_pair (z % 256) ++ cs), given_last (z % 256) cs, before-before, ← joined) refl
+    let joined : nulls (256 * (z / 256)) ++ nulls (z % 256) ≡ nulls z = replicate-append-replicate
+    (256 * (z / 256)) (z % 256) 0 ∙ ap nulls total in
+    rw (
+      append_assoc,
+      given_pairs (z / 256) (last_pair (z % 256) ++ cs),
+      given_last (z % 256) cs,
+      before-before,
+      ← joined,
+    ) refl
 
 -- what is given, and zeros after it, are the bytes
 record Gives (z : ℕ) (xs : List ℕ) (c : List ℕ) : Type 0 where
@@ -54,7 +63,8 @@ gives_nil z = record { ys = []; more = z; given_is = refl; whole = sym (append-n
 
 gives_zero : (z : ℕ) (xs c : List ℕ) → Gives (z + 1) xs c → Gives z (0 ∷ xs) c
 gives_zero z xs c g =
-    let e : replicate z 0 ++ 0 ∷ xs ≡ replicate (z + 1) 0 ++ xs = sym (ap (λ l. l ++ xs) (sym (replicate_more z 0)) ∙ append_assoc (replicate z 0) (0 ∷ []) xs) in
+    let e : replicate z 0 ++ 0 ∷ xs ≡ replicate (z + 1) 0
+    ++ xs = sym (ap (λ l. l ++ xs) (sym (replicate_more z 0)) ∙ append_assoc (replicate z 0) (0 ∷ []) xs) in
     record { ys = g.ys; more = g.more; given_is = g.given_is; whole = rw e g.whole }
 
 gives_byte : (z b : ℕ) (xs c : List ℕ) → Gives 0 xs c → Gives z (suc b ∷ xs) (spelled (Zeros z) ++ suc b ∷ c)
@@ -82,7 +92,12 @@ pub comes_back : ComesBack
 unfolding unpacked
 comes_back xs =
     let g : Gives 0 xs (packed_after 0 xs) = gives 0 xs in
-    let n : length xs ≡ length g.ys + g.more = omega (arith, ap length g.whole, length-append g.ys (nulls g.more), length-replicate {A = ℕ} g.more 0) in
+    let n : length xs ≡ length g.ys + g.more = omega (
+      arith,
+      ap length g.whole,
+      length-append g.ys (nulls g.more),
+      length-replicate {A = ℕ} g.more 0,
+    ) in
     rw (← packed_is xs, g.given_is, fills (length xs) g.ys g.more n, g.whole) refl
 
 length_pairs : (q : ℕ) → length (pairs q) ≡ 2 * q
@@ -101,13 +116,21 @@ length_last_2 (suc r) = omega arith
 -- a run and the byte after it
 length_zeros : (z : ℕ) → 2 * length (spelled (Zeros z)) ≤ 3 * z + 1
 unfolding spelled
-length_zeros z = omega (arith, length-append (pairs (z / 256)) (last_pair (z % 256)), length_pairs (z / 256), length_last (z % 256), length_last_2 (z % 256))
+length_zeros z =
+    omega (
+      arith,
+      length-append (pairs (z / 256)) (last_pair (z % 256)),
+      length_pairs (z / 256),
+      length_last (z % 256),
+      length_last_2 (z % 256),
+    )
 
 short_after : (z : ℕ) (xs : List ℕ) → 2 * length (packed_after z xs) ≤ 3 * (z + length xs)
 unfolding packed_after
 short_after z [] = omega arith
 short_after z (zero ∷ xs) = omega (arith, short_after (z + 1) xs)
-short_after z (suc b ∷ xs) = omega (arith, short_after 0 xs, length-append (spelled (Zeros z)) (suc b ∷ packed_after 0 xs), length_zeros z)
+short_after z (suc b ∷ xs) =
+    omega (arith, short_after 0 xs, length-append (spelled (Zeros z)) (suc b ∷ packed_after 0 xs), length_zeros z)
 
 pub packs_short : PacksShort
 packs_short xs = omega (arith, short_after 0 xs, ap length (packed_is xs))

@@ -2,7 +2,9 @@
 use Rattle.std.specs.Prelude.{replicate}
 use Rattle.std.specs.List.{flat_map}
 use Rattle.std.proofs.Common.{◌≡◌, ◌∙◌, ℕ, zero, suc, ◌<◌, List, [], ◌∷◌, ◌++◌, refl, ap, arith, add-one}
-use Rattle.zk_save.specs.Packing.{Run, Zeros, Byte, bytes_of, with_zero, runs_of, zero_before, without_last_zeros, BeginsOtherwise, AreLongest, CutsIntoLongest, CutsInOneWay, EndsOtherwise, DropsLastZeros}
+use Rattle.zk_save.specs.Packing.{Run, Zeros, Byte, bytes_of, with_zero, runs_of, zero_before, without_last_zeros}
+use Rattle.zk_save.specs.Packing.{BeginsOtherwise, AreLongest, CutsIntoLongest, CutsInOneWay, EndsOtherwise}
+use Rattle.zk_save.specs.Packing.{DropsLastZeros}
 
 joined_zero : (rs : List Run) → flat_map bytes_of (with_zero rs) ≡ 0 ∷ flat_map bytes_of rs
 joined_zero [] = refl
@@ -31,12 +33,14 @@ pub cuts_into_longest : CutsIntoLongest
 cuts_into_longest xs = (joined xs, longest xs)
 
 -- zeros in front of runs that begin otherwise
-zeros_before : (n : ℕ) (xs : List ℕ) (rs : List Run) → runs_of xs ≡ rs → BeginsOtherwise rs → runs_of (replicate (suc n) 0 ++ xs) ≡ Zeros (suc n) ∷ rs
+zeros_before : (n : ℕ) (xs : List ℕ) (rs : List Run) → runs_of xs ≡ rs → BeginsOtherwise rs
+    → runs_of (replicate (suc n) 0 ++ xs) ≡ Zeros (suc n) ∷ rs
 unfolding runs_of
 zeros_before zero xs [] e other = ap with_zero e
 zeros_before zero xs (Zeros n ∷ rs) e other = absurd other
 zeros_before zero xs (Byte b ∷ rs) e other = ap with_zero e
-zeros_before (suc n) xs rs e other = ap with_zero (zeros_before n xs rs e other) ∙ ap (λ (k : ℕ). Zeros k ∷ rs) (add-one (suc n))
+zeros_before (suc n) xs rs e other =
+    ap with_zero (zeros_before n xs rs e other) ∙ ap (λ (k : ℕ). Zeros k ∷ rs) (add-one (suc n))
 
 pub cuts_in_one_way : CutsInOneWay
 unfolding runs_of AreLongest
@@ -80,12 +84,14 @@ unfolding without_last_zeros
 none_left zero = refl
 none_left (suc z) = rw (none_left z) refl
 
-pub kept_before : (z b : ℕ) (xs : List ℕ) → without_last_zeros (replicate z 0 ++ suc b ∷ xs) ≡ replicate z 0 ++ suc b ∷ without_last_zeros xs
+pub kept_before : (z b : ℕ) (xs : List ℕ) → without_last_zeros (replicate z 0 ++ suc b ∷ xs) ≡ replicate z 0
+    ++ suc b ∷ without_last_zeros xs
 unfolding without_last_zeros
 kept_before zero b xs = refl
 kept_before (suc zero) b xs = refl
 kept_before (suc (suc z)) b xs = ap zero_before (kept_before (suc z) b xs)
 
-pub run_before : (z b : ℕ) (xs : List ℕ) → runs_of (replicate (suc z) 0 ++ suc b ∷ xs) ≡ Zeros (suc z) ∷ Byte (suc b) ∷ runs_of xs
+pub run_before : (z b : ℕ) (xs : List ℕ) → runs_of (replicate (suc z) 0 ++ suc b ∷ xs) ≡ Zeros (suc z)
+    ∷ Byte (suc b) ∷ runs_of xs
 unfolding runs_of
 run_before z b xs = zeros_before z (suc b ∷ xs) (Byte (suc b) ∷ runs_of xs) refl tt

@@ -32,15 +32,21 @@ map_reversed {X} {Y} f (x ∷ xs) =
     ∙ sym (ap (map f) (reverse_cons x xs) ∙ map-append f (reverse xs) (x ∷ []))
 
 -- a state of a number, where the list is the other way round
-pub holds_there : (P : KeptState → Type 0) (items : List KeptState) (n : ℕ) (k : KeptState) → All P (reverse items) → slice_get items n ≡ Some k → P k
+pub holds_there : (P : KeptState → Type 0) (items : List KeptState) (n : ℕ) (k : KeptState)
+    → All P (reverse items) → slice_get items n ≡ Some k → P k
 holds_there P items n k h there =
-    let all : All P items = subst (λ (l : List KeptState). All P l) (reverse-reverse items) (all_reversed P (reverse items) h) in
+    let all : All P items = subst (λ (l : List KeptState). All P l) (reverse-reverse items)
+    (all_reversed P (reverse items) h) in
     subst P (get_or_from_slice_get items n k k there) (all n k (slice_get_within items n k there))
 
-whole_there : (file : List ℕ) (items : List KeptState) (n : ℕ) (k : KeptState) (w : WholeState) → slice_get items n ≡ Some k → slice_get (reverse (map (whole_state file) (reverse items))) n ≡ Some w → w ≡ whole_state file k
+whole_there : (file : List ℕ) (items : List KeptState) (n : ℕ) (k : KeptState) (w : WholeState)
+    → slice_get items n ≡ Some k → slice_get (reverse (map (whole_state file) (reverse items))) n ≡ Some w
+    → w ≡ whole_state file k
 whole_there file items n k w there h =
-    let same : reverse (map (whole_state file) (reverse items)) ≡ map (whole_state file) items = map_reversed (whole_state file) (reverse items) ∙ ap (map (whole_state file)) (reverse-reverse items) in
-    let is : Some w ≡ Some (whole_state file k) = sym h ∙ ap (λ (l : List WholeState). slice_get l n) same ∙ slice_get-map (whole_state file) items n ∙ ap (option_map (whole_state file)) there in
+    let same : reverse (map (whole_state file) (reverse items)) ≡ map (whole_state file) items = map_reversed
+    (whole_state file) (reverse items) ∙ ap (map (whole_state file)) (reverse-reverse items) in
+    let is : Some w ≡ Some (whole_state file k) = sym h ∙ ap (λ (l : List WholeState). slice_get l n) same
+    ∙ slice_get-map (whole_state file) items n ∙ ap (option_map (whole_state file)) there in
     cc
 
 -- ---- what a state differs in from the file
@@ -68,23 +74,36 @@ frames_there f [] some = absurd (omega (arith, some))
 frames_there f (x ∷ xs) some = refl
 
 -- what is told is that of the whole state
-pub shown_is : (file : List ℕ) (items : List KeptState) (n : ℕ) (k : KeptState) (w : WholeState) (told : List ℕ) (f g : FrameList) (pc : ℕ) → slice_get items n ≡ Some k → length k.difference ≤ length file → 1 ≤ length k.frames
-    → told ≡ packed k.difference → g ≡ with_frames f k.frames → pc ≡ k.pc → slice_get (reverse (map (whole_state file) (reverse items))) n ≡ Some w → (told ≡ packed_of file w) × (frames_of g ≡ w.frames) × (pc ≡ w.pc)
+pub shown_is : (file : List ℕ) (items : List KeptState) (n : ℕ) (k : KeptState) (w : WholeState) (told : List ℕ)
+    (f g : FrameList) (pc : ℕ) → slice_get items n ≡ Some k → length k.difference ≤ length file → 1 ≤ length k.frames
+    → told ≡ packed k.difference → g ≡ with_frames f k.frames → pc ≡ k.pc
+    → slice_get (reverse (map (whole_state file) (reverse items))) n ≡ Some w → (told ≡ packed_of file w)
+    × (frames_of g ≡ w.frames) × (pc ≡ w.pc)
 shown_is file items n k w told f g pc there le some t e p h =
     let is : w ≡ whole_state file k = whole_there file items n k w there h in
-    let same : packed_of file (whole_state file k) ≡ packed k.difference = ap packed (difference_back file k.difference le) in
-    (t ∙ sym (ap (packed_of file) is ∙ same), ap (λ (x : FrameList). frames_of x) e ∙ frames_there f k.frames some ∙ sym (ap (λ (x : WholeState). x.frames) is), p ∙ sym (ap (λ (x : WholeState). x.pc) is))
+    let same : packed_of file (whole_state file k) ≡ packed k.difference = ap packed
+    (difference_back file k.difference le) in (
+      t ∙ sym (ap (packed_of file) is ∙ same),
+      ap (λ (x : FrameList). frames_of x) e ∙ frames_there f k.frames some
+          ∙ sym (ap (λ (x : WholeState). x.frames) is),
+      p ∙ sym (ap (λ (x : WholeState). x.pc) is),
+    )
 
 -- the dynamic memory of each state has the length of the story's
-pub all_sized : (m : MemoryMap) (f : FrameList) (u : UndoStates) → m.static_base ≤ length m.file → AreOf m f u → All (λ (w : WholeState). length w.dynamic ≡ m.static_base) (states_in m.file u)
+pub all_sized : (m : MemoryMap) (f : FrameList) (u : UndoStates) → m.static_base ≤ length m.file → AreOf m f u
+    → All (λ (w : WholeState). length w.dynamic ≡ m.static_base) (states_in m.file u)
 unfolding states_in AreOf
 all_sized m f u le are = sized u.states are
   where
     one : (k : KeptState) → length k.difference ≡ m.static_base → length (whole_state m.file k).dynamic ≡ m.static_base
-    one k e = length-xored_same (take (length k.difference) m.file) k.difference (length-take-le (length k.difference) m.file (omega (arith, e, le))) ∙ e
+    one k e = length-xored_same (take (length k.difference) m.file) k.difference
+        (length-take-le (length k.difference) m.file (omega (arith, e, le))) ∙ e
 
-    sized : (ks : List KeptState) → All (IsOf m.static_base f.most_frames f.most_words) ks → All (λ (w : WholeState). length w.dynamic ≡ m.static_base) (map (whole_state m.file) ks)
+    sized : (ks : List KeptState) → All (IsOf m.static_base f.most_frames f.most_words) ks
+        → All (λ (w : WholeState). length w.dynamic ≡ m.static_base) (map (whole_state m.file) ks)
     sized [] h = All-nil (λ (w : WholeState). length w.dynamic ≡ m.static_base)
     sized (k ∷ ks) h =
         let first = All-head (IsOf m.static_base f.most_frames f.most_words) k ks h in
-        All-cons (λ (w : WholeState). length w.dynamic ≡ m.static_base) (whole_state m.file k) (map (whole_state m.file) ks) (one k first.dynamic) (sized ks (All-tail (IsOf m.static_base f.most_frames f.most_words) k ks h))
+        All-cons (λ (w : WholeState). length w.dynamic ≡ m.static_base) (whole_state m.file k)
+        (map (whole_state m.file) ks) (one k first.dynamic)
+        (sized ks (All-tail (IsOf m.static_base f.most_frames f.most_words) k ks h))

@@ -1,7 +1,9 @@
 -- Of which story a saved game is, and whether its memory fits.
 use Rattle.std.specs.Prelude.{nat_le, is_some, option_map, codes, replicate, if◌then◌else◌, ◌==◌}
 use Rattle.std.specs.Str.{bytes_eq}
-use Rattle.std.proofs.Common.{◌≡◌, ◌∙◌, ℕ, zero, suc, ◌+◌, ◌-◌, ◌<◌, ◌≤◌, Bool, true, false, List, [], ◌∷◌, ◌++◌, length, take, drop, get_or, Option, Some, None, refl, ap, sym, arith, add-one, drop-cons, length-append}
+use Rattle.std.proofs.Common.{◌≡◌, ◌∙◌, ℕ, zero, suc, ◌+◌, ◌-◌, ◌<◌, ◌≤◌, Bool, true, false, List, [], ◌∷◌, ◌++◌}
+use Rattle.std.proofs.Common.{length, take, drop, get_or, Option, Some, None, refl, ap, sym, arith, add-one, drop-cons}
+use Rattle.std.proofs.Common.{length-append}
 use Rattle.std.proofs.lemmas.Bool.Decides.{nat_tests}
 use Rattle.std.proofs.lemmas.List.{drop_all, length-replicate}
 use Rattle.zk_save.specs.Unpacking.{before, given, filled, unpacked, xored}
@@ -25,36 +27,46 @@ room_start n cs = room_start_by (given cs) n
 
 room_before : (o : Option (List ℕ)) (n at : ℕ) (ys : List ℕ) → room n at (before ys o) ≡ room n (at + length ys) o
 room_before None n at ys = refl
-room_before (Some xs) n at ys = let long : at + length (ys ++ xs) ≡ at + length ys + length xs = omega (arith, length-append ys xs) in rw long refl
+room_before (Some xs) n at ys = let long : at + length (ys ++ xs) ≡ at + length ys + length
+    xs = omega (arith, length-append ys xs) in rw long refl
 
 -- the next byte stands first
 here : (cs : List ℕ) (i b : ℕ) → i < length cs → get_or cs i 0 ≡ b → drop i cs ≡ b ∷ drop (i + 1) cs
-here cs i b lt e = drop-cons cs i 0 lt ∙ ap (λ (x : ℕ). x ∷ drop (suc i) cs) e ∙ ap (λ (k : ℕ). b ∷ drop k cs) (sym (add-one i))
+here cs i b lt e =
+    drop-cons cs i 0 lt ∙ ap (λ (x : ℕ). x ∷ drop (suc i) cs) e ∙ ap (λ (k : ℕ). b ∷ drop k cs) (sym (add-one i))
 
 module _ (whole : Bool) (cs : List ℕ) (i n at : ℕ) where
-  pub room_run : (b : ℕ) → i < length cs → get_or cs i 0 ≡ b → room n at (given_after true (drop i cs)) ≡ whole → room n (at + (b + 1)) (given_after false (drop (i + 1) cs)) ≡ whole
+  pub room_run : (b : ℕ) → i < length cs → get_or cs i 0 ≡ b → room n at (given_after true (drop i cs)) ≡ whole
+      → room n (at + (b + 1)) (given_after false (drop (i + 1) cs)) ≡ whole
   unfolding given_after
   room_run b lt e h =
-      let long : at + length (replicate (b + 1) 0) ≡ at + (b + 1) = ap (λ (k : ℕ). at + k) (length-replicate {A = ℕ} (b + 1) 0) in
-      ap (λ (k : ℕ). room n k (given (drop (i + 1) cs))) (sym long) ∙ sym (room_before (given (drop (i + 1) cs)) n at (replicate (b + 1) 0)) ∙ rw (here cs i b lt e) at h
+      let long : at + length (replicate (b + 1) 0) ≡ at + (b + 1) = ap (λ (k : ℕ). at + k)
+      (length-replicate {A = ℕ} (b + 1) 0) in
+      ap (λ (k : ℕ). room n k (given (drop (i + 1) cs))) (sym long)
+      ∙ sym (room_before (given (drop (i + 1) cs)) n at (replicate (b + 1) 0)) ∙ rw (here cs i b lt e) at h
 
   zero_given : (xs : List ℕ) → given (0 ∷ xs) ≡ given_after true xs
   unfolding given given_after
   zero_given [] = refl
   zero_given (x ∷ xs) = refl
 
-  pub room_zero : (b : ℕ) → i < length cs → get_or cs i 0 ≡ b → b ≡ 0 → room n at (given_after false (drop i cs)) ≡ whole → room n at (given_after true (drop (i + 1) cs)) ≡ whole
+  pub room_zero : (b : ℕ) → i < length cs → get_or cs i 0 ≡ b → b ≡ 0
+      → room n at (given_after false (drop i cs)) ≡ whole → room n at (given_after true (drop (i + 1) cs)) ≡ whole
   unfolding given_after
-  room_zero b lt e z h = ap (room n at) (sym (zero_given (drop (i + 1) cs))) ∙ ap (λ (k : ℕ). room n at (given (k ∷ drop (i + 1) cs))) (sym z) ∙ rw (here cs i b lt e) at h
+  room_zero b lt e z h = ap (room n at) (sym (zero_given (drop (i + 1) cs)))
+      ∙ ap (λ (k : ℕ). room n at (given (k ∷ drop (i + 1) cs))) (sym z) ∙ rw (here cs i b lt e) at h
 
   byte_given : (b : ℕ) (xs : List ℕ) → (b ≡ 0 → ⊥) → given (b ∷ xs) ≡ before (b ∷ []) (given xs)
   unfolding given
   byte_given zero xs ne = absurd (ne refl)
   byte_given (suc b) xs ne = refl
 
-  pub room_byte : (b : ℕ) → i < length cs → get_or cs i 0 ≡ b → (b ≡ 0 → ⊥) → room n at (given_after false (drop i cs)) ≡ whole → room n (at + 1) (given_after false (drop (i + 1) cs)) ≡ whole
+  pub room_byte : (b : ℕ) → i < length cs → get_or cs i 0 ≡ b → (b ≡ 0 → ⊥)
+      → room n at (given_after false (drop i cs)) ≡ whole
+      → room n (at + 1) (given_after false (drop (i + 1) cs)) ≡ whole
   unfolding given_after
-  room_byte b lt e ne h = sym (room_before (given (drop (i + 1) cs)) n at (b ∷ [])) ∙ ap (room n at) (sym (byte_given b (drop (i + 1) cs) ne)) ∙ rw (here cs i b lt e) at h
+  room_byte b lt e ne h = sym (room_before (given (drop (i + 1) cs)) n at (b ∷ []))
+      ∙ ap (room n at) (sym (byte_given b (drop (i + 1) cs) ne)) ∙ rw (here cs i b lt e) at h
 
   room_none : (o : Option (List ℕ)) → n < at → room n at o ≡ false
   room_none None lt = refl
@@ -79,7 +91,8 @@ some_by : (b : Bool) (xs : List ℕ) → b ≡ is_some (if b then Some xs else N
 some_by true xs = refl
 some_by false xs = refl
 
-pub plain_fits : (m : MemoryMap) (name content : List ℕ) (n : ℕ) → bytes_eq name (codes "UMem") ≡ true → n ≡ m.static_base → (length content == n) ≡ is_some (dynamic_in m (chunk_seen name content))
+pub plain_fits : (m : MemoryMap) (name content : List ℕ) (n : ℕ) → bytes_eq name (codes "UMem") ≡ true
+    → n ≡ m.static_base → (length content == n) ≡ is_some (dynamic_in m (chunk_seen name content))
 unfolding dynamic_in
 plain_fits m name content n e h = rw (e, h) (some_by (length content == m.static_base) content)
 
@@ -87,6 +100,10 @@ map_some : (f : List ℕ → List ℕ) (o : Option (List ℕ)) → is_some o ≡
 map_some f None = refl
 map_some f (Some xs) = refl
 
-pub packed_fits : (m : MemoryMap) (name content : List ℕ) (n : ℕ) (b : Bool) → bytes_eq name (codes "UMem") ≡ false → n ≡ m.static_base → b ≡ is_some (unpacked n content) → b ≡ is_some (dynamic_in m (chunk_seen name content))
+pub packed_fits : (m : MemoryMap) (name content : List ℕ) (n : ℕ) (b : Bool)
+    → bytes_eq name (codes "UMem") ≡ false → n ≡ m.static_base → b ≡ is_some (unpacked n content)
+    → b ≡ is_some (dynamic_in m (chunk_seen name content))
 unfolding dynamic_in
-packed_fits m name content n b e h f = rw e (f ∙ ap (λ (k : ℕ). is_some (unpacked k content)) h ∙ map_some (λ ds. xored (take m.static_base m.file) ds) (unpacked m.static_base content))
+packed_fits m name content n b e h f =
+    rw e (f ∙ ap (λ (k : ℕ). is_some (unpacked k content)) h ∙ map_some (λ ds. xored (take m.static_base m.file) ds)
+    (unpacked m.static_base content))

@@ -1,5 +1,8 @@
--- How the code packs and unpacks: it counts zeros, and writes them when another byte comes; and how it notes what it reads.
-use Rattle.std.specs.Prelude.{◌≡◌, ◌≤◌, Bool, true, false, ℕ, zero, suc, ◌+◌, List, [], ◌∷◌, ◌++◌, replicate, reverse, length, take, drop, if◌then◌else◌, nat_le, codes, Option, Some, None, option_map, option_copied, Ok}
+-- How the code packs and unpacks: it counts zeros, and writes them when another byte comes; and how it notes what it
+-- reads.
+use Rattle.std.specs.Prelude.{◌≡◌, ◌≤◌, Bool, true, false, ℕ, zero, suc, ◌+◌, List, [], ◌∷◌, ◌++◌, replicate, reverse}
+use Rattle.std.specs.Prelude.{length, take, drop, if◌then◌else◌, nat_le, codes, Option, Some, None, option_map}
+use Rattle.std.specs.Prelude.{option_copied, Ok}
 use Rattle.std.specs.Str.{bytes_eq}
 use Rattle.zk_save.specs.Packing.{Zeros, spelled}
 use Rattle.zk_save.specs.Unpacking.{before, given}
@@ -39,7 +42,8 @@ chunk_cut c = chunk_seen c.name.now c.content.now
 
 -- a frame whose words are written as bytes
 abbrev pub frame_seen : List ℕ → List ℕ → ℕ → Option ℕ → ℕ → Frame
-frame_seen locals words pc result supplied = record { locals = words_of locals; words = words_of words; pc = pc; result = result; supplied = supplied }
+frame_seen locals words pc result supplied =
+    record { locals = words_of locals; words = words_of words; pc = pc; result = result; supplied = supplied }
 
 -- a frame that the code has cut off, and what stands after it
 abbrev pub frame_cut : FrameBytes → Frame × List ℕ
@@ -74,7 +78,8 @@ none_noted = record { story = None; memory = None; stack = None }
 
 -- what the code has found
 abbrev pub found_seen : Found → Noted
-found_seen f = record { story = option_copied f.story; memory = option_map chunk_cut f.memory; stack = option_copied f.stack }
+found_seen f =
+    record { story = option_copied f.story; memory = option_map chunk_cut f.memory; stack = option_copied f.stack }
 
 -- the parts that the code has cut off
 abbrev pub parts_cut : Cut.Parts → Parts
@@ -119,4 +124,8 @@ pub record CanRestore (file : List ℕ) (m : MemoryMap) (s : FrameList) (p : Par
   pub frames_are : frames_read p.stack ≡ Some frames
   pub few_frames : length frames ≤ s.most_frames
   pub few_words : sizes_of frames ≤ s.most_words
-  pub restored_is : restored file m s ≡ Ok (again m (dynamic ++ drop (length dynamic) m.file), with_frames s (reverse frames), number_of (bytes_behind 10 3 p.story))
+  pub restored_is : restored file m s ≡ Ok (
+    again m (dynamic ++ drop (length dynamic) m.file),
+    with_frames s (reverse frames),
+    number_of (bytes_behind 10 3 p.story),
+  )

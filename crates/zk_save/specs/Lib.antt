@@ -3,8 +3,7 @@ pub mod Unpacking
 pub mod Counted
 pub mod States
 pub mod Ring
-pub mod Examples
 pub mod Quetzal
 pub mod Reading
 pub mod Loading
-pub mod Spelling
+pub mod guards

@@ -1,5 +1,6 @@
 -- What a saved game loads (Quetzal 1.4).
-use Rattle.std.specs.Prelude.{◌≡◌, Bool, not, ℕ, ◌+◌, ◌-◌, ◌==◌, ◌||◌, ◌&&◌, List, [], ◌∷◌, ◌++◌, length, take, reverse, codes, nat_lt, if◌then◌else◌, Option, Some, None, option_map, Result, Ok, Err}
+use Rattle.std.specs.Prelude.{◌≡◌, Bool, not, ℕ, ◌+◌, ◌-◌, ◌==◌, ◌||◌, ◌&&◌, List, [], ◌∷◌, ◌++◌, length, take, reverse}
+use Rattle.std.specs.Prelude.{codes, nat_lt, if◌then◌else◌, Option, Some, None, option_map, Result, Ok, Err}
 use Rattle.std.specs.Str.{bytes_eq}
 use Rattle.zk_mem.specs.Map.{MemoryMap}
 use Rattle.zk_mem.specs.Header.{header_of}
@@ -7,7 +8,8 @@ use Rattle.zk_state.specs.declared.refusal.Refusal.{Refusal}
 use Rattle.zk_state.specs.declared.refusal.Refusal.TheVariants as refusal
 use Rattle.zk_state.specs.Frames.{FrameList, with_frames, within_bounds}
 use Rattle.zk_save.specs.declared.restore.RestoreError.{RestoreError}
-use Rattle.zk_save.specs.declared.restore.RestoreError.TheVariants.{NotQuetzal, Truncated, OtherStory, BadMemory, BadStack, Limit}
+use Rattle.zk_save.specs.declared.restore.RestoreError.TheVariants.{NotQuetzal, Truncated, OtherStory, BadMemory}
+use Rattle.zk_save.specs.declared.restore.RestoreError.TheVariants.{BadStack, Limit}
 use Rattle.zk_save.specs.Quetzal.{Chunk, bytes_2, story_checksum}
 use Rattle.zk_save.specs.Reading.{number_of, bytes_behind, chunks_in, content_of, frames_read}
 use Rattle.zk_save.specs.States.{WholeState, memory_back}
@@ -25,7 +27,8 @@ loaded_by {A} {B} (Err e) f = Err e
 
 -- ---- the form (Quetzal 1.4, sections 2 and 8)
 
--- the bytes of the chunks in a form of so many bytes after its length, the first four of which say that it is a saved game
+-- the bytes of the chunks in a form of so many bytes after its length, the first four of which say that it is a saved
+-- game
 abbrev pub form_of : ℕ → List ℕ → Result (List ℕ) RestoreError
 form_of n file = if nat_lt n 4 || nat_lt (length file) (8 + n) then Err Truncated else Ok (bytes_behind 12 (n - 4) file)
 
@@ -33,7 +36,8 @@ form_of n file = if nat_lt n 4 || nat_lt (length file) (8 + n) then Err Truncate
 unfoldable pub form_in : List ℕ → Result (List ℕ) RestoreError
 form_in file =
     if nat_lt (length file) 12 then Err Truncated
-    else if bytes_eq (take 4 file) (codes "FORM") && bytes_eq (bytes_behind 8 4 file) (codes "IFZS") then form_of (number_of (bytes_behind 4 4 file)) file
+    else if bytes_eq (take 4 file) (codes "FORM") && bytes_eq (bytes_behind 8 4 file) (codes "IFZS") then form_of
+    (number_of (bytes_behind 4 4 file)) file
     else Err NotQuetzal
 
 -- ---- the chunks that count
@@ -41,7 +45,8 @@ form_in file =
 -- the first of the chunks of memory, packed or as it is (Quetzal 1.4, section 3)
 unfoldable pub memory_chunk : List Chunk → Option Chunk
 memory_chunk [] = None
-memory_chunk (c ∷ cs) = if bytes_eq c.name (codes "CMem") || bytes_eq c.name (codes "UMem") then Some c else memory_chunk cs
+memory_chunk (c ∷ cs) =
+    if bytes_eq c.name (codes "CMem") || bytes_eq c.name (codes "UMem") then Some c else memory_chunk cs
 
 -- what says of which story a saved game is, where it is whole: 13 bytes (Quetzal 1.4, section 5)
 abbrev pub story_part : List ℕ → Option (List ℕ)
@@ -105,7 +110,8 @@ frames_fit (Err (refusal.Fault f)) = Err BadStack
 
 -- a whole state takes the place of a memory and frames, within their bounds; it tells where the run goes on
 unfoldable pub put_in_place : WholeState → MemoryMap → FrameList → Result (MemoryMap × FrameList × ℕ) RestoreError
-put_in_place w m s = loaded_by (frames_fit (within_bounds (with_frames s w.frames))) (λ frames. Ok (memory_back w m, frames, w.pc))
+put_in_place w m s =
+    loaded_by (frames_fit (within_bounds (with_frames s w.frames))) (λ frames. Ok (memory_back w m, frames, w.pc))
 
 -- a saved game is restored: what it loads takes the place of memory and frames (Standard, section 15, `restore`)
 unfoldable pub restored : List ℕ → MemoryMap → FrameList → Result (MemoryMap × FrameList × ℕ) RestoreError
@@ -115,4 +121,5 @@ restored bytes m s = loaded_by (loaded m bytes) (λ w. put_in_place w m s)
 
 -- what was saved is loaded: the same dynamic memory, frames and program counter
 abbrev pub IsLoadedAgain : MemoryMap → FrameList → ℕ → List ℕ → Type 0
-IsLoadedAgain m s pc file = loaded m file ≡ Ok (record { dynamic = take m.static_base m.bytes; frames = s.current ∷ s.callers; pc = pc })
+IsLoadedAgain m s pc file =
+    loaded m file ≡ Ok (record { dynamic = take m.static_base m.bytes; frames = s.current ∷ s.callers; pc = pc })

@@ -1,5 +1,6 @@
 -- Bytes with their runs of zeros written short (Quetzal 1.4, section 3).
-use Rattle.std.specs.Prelude.{◌≡◌, ◌≢◌, ℕ, zero, suc, ◌+◌, ◌-◌, ◌*◌, ◌/◌, ◌%◌, ◌<◌, ◌≤◌, List, [], ◌∷◌, ◌++◌, length, replicate}
+use Rattle.std.specs.Prelude.{◌≡◌, ◌≢◌, ℕ, zero, suc, ◌+◌, ◌-◌, ◌*◌, ◌/◌, ◌%◌, ◌<◌, ◌≤◌, List, [], ◌∷◌, ◌++◌, length}
+use Rattle.std.specs.Prelude.{replicate}
 use Rattle.std.specs.List.{flat_map}
 
 -- a run of bytes: so many zeros, or one other byte
@@ -89,7 +90,8 @@ EndsOtherwise (x ∷ y ∷ xs) = EndsOtherwise (y ∷ xs)
 
 -- zeros at the end are dropped, all of them and nothing else
 abbrev pub DropsLastZeros : Type 0
-DropsLastZeros = (xs : List ℕ) → EndsOtherwise (without_last_zeros xs) × ((n : ℕ) × (without_last_zeros xs ++ replicate n 0 ≡ xs))
+DropsLastZeros =
+    (xs : List ℕ) → EndsOtherwise (without_last_zeros xs) × ((n : ℕ) × (without_last_zeros xs ++ replicate n 0 ≡ xs))
 
 -- at most half as much again
 abbrev pub PacksShort : Type 0

@@ -1,5 +1,6 @@
 -- Saved games (Quetzal 1.4).
-use Rattle.std.specs.Prelude.{ℕ, ◌+◌, ◌-◌, ◌/◌, ◌%◌, ◌^◌, ◌==◌, List, [], ◌∷◌, ◌++◌, length, take, reverse, replicate, codes, nat_le, if◌then◌else◌, Option, Some, None}
+use Rattle.std.specs.Prelude.{ℕ, ◌+◌, ◌-◌, ◌/◌, ◌%◌, ◌^◌, ◌==◌, List, [], ◌∷◌, ◌++◌, length, take, reverse, replicate}
+use Rattle.std.specs.Prelude.{codes, nat_le, if◌then◌else◌, Option, Some, None}
 use Rattle.std.specs.List.{flat_map}
 use Rattle.zk_mem.specs.Map.{MemoryMap}
 use Rattle.zk_mem.specs.Header.{header_of}
@@ -48,7 +49,8 @@ story_checksum file = if (header_of file).checksum == 0 then file_sum file else 
 -- the release, the serial number and the checksum of the story, and the address where the run goes on (Quetzal 1.4,
 -- section 5)
 unfoldable pub story_content : List ℕ → ℕ → List ℕ
-story_content file pc = bytes_2 (header_of file).release ++ (header_of file).serial ++ bytes_2 (story_checksum file) ++ bytes_3 pc
+story_content file pc =
+    bytes_2 (header_of file).release ++ (header_of file).serial ++ bytes_2 (story_checksum file) ++ bytes_3 pc
 
 -- ---- frames (Quetzal 1.4, section 4)
 
@@ -74,7 +76,9 @@ with_stack head f = head ++ bytes_2 (length f.words) ++ words_bytes f.locals ++ 
 -- a frame: the address that it returns to, flags with the number of local variables, the variable of its result, a bit
 -- for each argument, and its words (Quetzal 1.4, section 4)
 unfoldable pub frame_bytes : Frame → List ℕ
-frame_bytes f = with_stack (bytes_3 f.pc ++ (drop_flag f.result + length f.locals) ∷ variable_of f.result ∷ (2 ^ f.supplied - 1) ∷ []) f
+frame_bytes f =
+    with_stack (bytes_3 f.pc ++ (drop_flag f.result + length f.locals) ∷ variable_of f.result
+    ∷ (2 ^ f.supplied - 1) ∷ []) f
 
 -- the first frame, which stands outside of all routines: its head is zeros (Quetzal 1.4, section 4)
 unfoldable pub first_bytes : Frame → List ℕ
@@ -91,7 +95,8 @@ stack_content (f ∷ fs) = first_bytes f ++ flat_map frame_bytes fs
 abbrev pub difference_of : MemoryMap → List ℕ
 difference_of m = packed (xored (take m.static_base m.bytes) m.file)
 
--- the chunk of memory: the difference where that has no more bytes than dynamic memory, else dynamic memory as it is (Quetzal
+-- the chunk of memory: the difference where that has no more bytes than dynamic memory, else dynamic memory as it is
+-- (Quetzal
 -- 1.4, section 3, which leaves it open)
 unfoldable pub memory_part : MemoryMap → Chunk
 memory_part m =

@@ -29,7 +29,8 @@ pub record UndoStates : Type 0 where
 
 -- the whole state that is kept over a story file
 abbrev pub whole_state : List ℕ → KeptState → WholeState
-whole_state file k = record { dynamic = xored (take (length k.difference) file) k.difference; frames = k.frames; pc = k.pc }
+whole_state file k =
+    record { dynamic = xored (take (length k.difference) file) k.difference; frames = k.frames; pc = k.pc }
 
 -- the whole states that are kept over a story file, newest first
 unfoldable pub states_in : List ℕ → UndoStates → List WholeState
@@ -45,7 +46,8 @@ memory_back w m = again m (w.dynamic ++ drop (length w.dynamic) m.file)
 
 -- the newest state is gone back to, where there is one: its dynamic memory is put back, its frames are put in the place
 -- of all, and the others are left (section 15, `restore_undo`)
-unfoldable pub gone_back : List WholeState → MemoryMap → FrameList → Option (MemoryMap × FrameList × ℕ × List WholeState)
+unfoldable pub gone_back : List WholeState → MemoryMap → FrameList
+    → Option (MemoryMap × FrameList × ℕ × List WholeState)
 gone_back [] m f = None
 gone_back (w ∷ ws) m f = Some (memory_back w m, with_frames f w.frames, w.pc, ws)
 
@@ -64,4 +66,5 @@ AreOf m f u = All (IsOf m.static_base f.most_frames f.most_words) u.states
 
 -- the story's static base and the bounds alone count for that
 abbrev pub OnlyBoundsCount : Type 0
-OnlyBoundsCount = (m n : MemoryMap) (f g : FrameList) (u : UndoStates) → n.static_base ≡ m.static_base → bounds_of g ≡ bounds_of f → AreOf m f u → AreOf n g u
+OnlyBoundsCount = (m n : MemoryMap) (f g : FrameList) (u : UndoStates) → n.static_base ≡ m.static_base
+    → bounds_of g ≡ bounds_of f → AreOf m f u → AreOf n g u

@@ -1,5 +1,6 @@
 -- What packed bytes give (Quetzal 1.4, section 3).
-use Rattle.std.specs.Prelude.{◌≡◌, ℕ, zero, suc, ◌+◌, ◌-◌, ◌<◌, ◌≤◌, List, [], ◌∷◌, ◌++◌, length, replicate, slice_index, nat_le, if◌then◌else◌, bit_xor, Option, Some, None}
+use Rattle.std.specs.Prelude.{◌≡◌, ℕ, zero, suc, ◌+◌, ◌-◌, ◌<◌, ◌≤◌, List, [], ◌∷◌, ◌++◌, length, replicate}
+use Rattle.std.specs.Prelude.{slice_index, nat_le, if◌then◌else◌, bit_xor, Option, Some, None}
 use Rattle.zk_save.specs.Packing.{packed}
 
 -- bytes before others, where there are others

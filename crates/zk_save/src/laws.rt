@@ -6,7 +6,7 @@ ghost use Rattle.zk_save.specs.Unpacking.{ComesBack, TurnsBack};
 ghost use Rattle.zk_save.specs.States.{OnlyBoundsCount};
 ghost use Rattle.zk_save.specs.Quetzal.{saved};
 ghost use Rattle.zk_save.specs.Loading.{IsLoadedAgain};
-ghost use Rattle.zk_save.specs.Spelling.{ReadsWhatIsSpelled, ReadsAllThatIsSpelled, ReadsWhatIsWritten};
+ghost use Rattle.zk_save.specs.guards.Spelling.{ReadsWhatIsSpelled, ReadsAllThatIsSpelled, ReadsWhatIsWritten};
 
 use zk_mem::memory::Memory;
 use zk_state::frames::Frames;

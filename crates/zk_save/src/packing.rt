@@ -1,6 +1,7 @@
 // Bytes with their runs of zeros written short.
 
-ghost use Rattle.std.specs.Prelude.{◌≡◌, ℕ, ◌+◌, ◌*◌, ◌^◌, ◌<◌, ◌≤◌, List, ◌∷◌, ◌++◌, length, drop, Some, IfOk, IsTrue, OnOk};
+ghost use Rattle.std.specs.Prelude.{◌≡◌, ℕ, ◌+◌, ◌*◌, ◌^◌, ◌<◌, ◌≤◌, List, ◌∷◌, ◌++◌, length, drop, Some, IfOk, IsTrue};
+ghost use Rattle.std.specs.Prelude.{OnOk};
 ghost use Rattle.zk_mem.specs.Again.{with_bytes};
 ghost use Rattle.zk_save.specs.Packing.{Zeros, pairs, spelled, packed};
 ghost use Rattle.zk_save.specs.Unpacking.{unpacked, xored, AreAlike};
@@ -13,7 +14,7 @@ use zk_mem::memory::Memory;
 const BLOCK: usize = 64;
 
 /// Writes so many zeros: pairs of a zero and how many come after it, of 256 zeros as long as these fit.
-#[tactic(auto, using(crate::proofs::Packs::pairs_start, crate::proofs::Packs::pairs_step, crate::proofs::Packs::zeros_rest, crate::proofs::Packs::zeros_even))]
+#[tactic(auto, using(crate::proofs::Packs::of_put_zeros))]
 fn put_zeros(out: &mut Vec<u8>, zeros: usize) -> Result<(), AllocError>
     ensures { OnOk result (out.new.items ≡ out.old.items ++ spelled (Zeros zeros)) }
 {

@@ -1,6 +1,7 @@
 // The parts of a saved game.
 
-ghost use Rattle.std.specs.Prelude.{◌≡◌, ◌≤◌, ◌&&◌, ◌||◌, List, ◌∷◌, length, take, codes, Ok, Err, IfSome, MatchResult, option_map};
+ghost use Rattle.std.specs.Prelude.{◌≡◌, ◌≤◌, ◌&&◌, ◌||◌, List, ◌∷◌, length, take, codes, Ok, Err, IfSome, MatchResult};
+ghost use Rattle.std.specs.Prelude.{option_map};
 ghost use Rattle.std.specs.Str.{bytes_eq};
 ghost use Rattle.zk_save.specs.Quetzal.{Chunk};
 ghost use Rattle.zk_save.specs.Reading.{bytes_behind, chunks_in};
@@ -85,7 +86,7 @@ fn note<'a>(found: Found<'a>, chunk: ChunkView<'a>) -> Found<'a>
 }
 
 /// What is found in a form; none where a chunk passes its end.
-#[tactic(auto, using(crate::proofs::Chunks::find_none, crate::proofs::Chunks::find_step, crate::proofs::Chunks::find_end))]
+#[tactic(auto, using(crate::proofs::Chunks::of_find))]
 fn find(form: &[u8]) -> Option<Found<'_>>
     ensures { option_map found_seen result ≡ option_map (noted none_noted) (chunks_in form.now) }
 {

@@ -1,8 +1,7 @@
 // The bytes of a saved game, cut into chunks and frames.
 
 ghost use Rattle.std.specs.Prelude.{◌≡◌, ◌^◌, ◌<◌, ◌≤◌, ◌+◌, length, option_map, IfSome};
-ghost use Rattle.zk_save.specs.Reading.{number_of};
-ghost use Rattle.zk_save.specs.Reading.{first_chunk, first_of_frames, arguments_in, result_in};
+ghost use Rattle.zk_save.specs.Reading.{number_of, first_chunk, first_of_frames, arguments_in, result_in};
 ghost use Rattle.zk_save.specs.Counted.{chunk_cut, frame_cut};
 
 /// The number that bytes spell, high byte first.

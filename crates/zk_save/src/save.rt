@@ -3,7 +3,9 @@
 ghost use Rattle.std.specs.Prelude.{◌≡◌, ◌+◌, ◌*◌, ◌^◌, ◌<◌, ◌≤◌, ◌++◌, length, reverse, IfOk, OnOk};
 ghost use Rattle.zk_mem.specs.Header.{header_of};
 ghost use Rattle.zk_state.specs.Frames.{frames_of, total_of, IsFrame};
-ghost use Rattle.zk_save.specs.Quetzal.{bytes_2, bytes_3, bytes_4, words_bytes, chunk_bytes, story_checksum, story_content, drop_flag, variable_of, frame_bytes, first_bytes, stack_content, memory_part, saved};
+ghost use Rattle.zk_save.specs.Quetzal.{bytes_2, bytes_3, bytes_4, words_bytes, chunk_bytes, story_checksum};
+ghost use Rattle.zk_save.specs.Quetzal.{story_content, drop_flag, variable_of, frame_bytes, first_bytes, stack_content};
+ghost use Rattle.zk_save.specs.Quetzal.{memory_part, saved};
 
 use crate::packing::pack_difference;
 use std::alloc::{AllocError, Global};
@@ -151,7 +153,7 @@ fn put_first(out: &mut Vec<u8>, frame: &FrameView) -> Result<(), AllocError>
 }
 
 /// All frames, the first before the others.
-#[tactic(auto, using(crate::proofs::Saves::stack_start, crate::proofs::Saves::stack_step, crate::proofs::Saves::stack_end))]
+#[tactic(auto, using(crate::proofs::Saves::of_stack_of))]
 fn stack_of(alloc: Global, frames: &Frames) -> Result<Vec<u8>, AllocError>
     ensures value { IfOk result (λ v. v.items ≡ stack_content (reverse (frames_of frames.now))) }
     ensures len { IfOk result
@@ -218,8 +220,8 @@ fn put_memory(alloc: Global, out: &mut Vec<u8>, memory: &Memory) -> Result<(), A
 }
 
 /// The file of a saved game (Quetzal 1.4): a form of the chunks `IFhd`, `CMem` or `UMem`, whichever is shorter,
-/// and `Stks`, for a memory and frames that go on at an address. The address is that of the branch data of `save` in version 3, and of
-/// its store byte from version 4 on.
+/// and `Stks`, for a memory and frames that go on at an address. The address is that of the branch data of `save` in
+/// version 3, and of its store byte from version 4 on.
 pub fn save(alloc: Global, memory: &Memory, frames: &Frames, pc: u32) -> Result<Vec<u8>, AllocError>
     requires { pc < 2 ^ 24 }
     ensures value { IfOk result (λ v. v.items ≡ saved memory.now frames.now pc) }

@@ -1,6 +1,7 @@
 // The newest states, to go back to.
 
-ghost use Rattle.std.specs.Prelude.{◌≡◌, ◌<◌, ◌≤◌, ◌^◌, [], ◌∷◌, take, length, reverse, slice_get, Some, None, MatchOption, IsOk, IfOk, OnOk, OnErr};
+ghost use Rattle.std.specs.Prelude.{◌≡◌, ◌<◌, ◌≤◌, ◌^◌, [], ◌∷◌, take, length, reverse, slice_get, Some, None};
+ghost use Rattle.std.specs.Prelude.{MatchOption, IsOk, IfOk, OnOk, OnErr};
 ghost use Rattle.zk_mem.specs.Map.{MemoryMap};
 ghost use Rattle.zk_state.specs.Frames.{FrameList, bounds_of, frames_of};
 ghost use Rattle.zk_save.specs.States.{WholeState, state_of, states_in, packed_of, gone_back, AreOf};
@@ -74,8 +75,8 @@ impl Undo {
         }
     }
 
-    /// What is told of the state of a number, where the oldest has number 0. Its frames are put in the place of all. The
-    /// states have to be of the same story and bounds.
+    /// What is told of the state of a number, where the oldest has number 0. Its frames are put in the place of all.
+    /// The states have to be of the same story and bounds.
     pub fn state(&self, memory: &Memory, frames: &mut Frames, number: u8) -> StateView<'_>
         requires are_of { AreOf memory.now frames.old self.now }
         requires number { number < length self.now.states }

@@ -1,6 +1,7 @@
 // Memory and frames of a saved game, put in the place of others.
 
-ghost use Rattle.std.specs.Prelude.{◌≡◌, ◌<◌, ◌≤◌, ◌+◌, ◌/◌, ◌^◌, ℕ, List, ◌++◌, length, take, drop, reverse, is_some, true, Some};
+ghost use Rattle.std.specs.Prelude.{◌≡◌, ◌<◌, ◌≤◌, ◌+◌, ◌/◌, ◌^◌, ℕ, List, ◌++◌, length, take, drop, reverse, is_some};
+ghost use Rattle.std.specs.Prelude.{true, Some};
 ghost use Rattle.zk_mem.specs.Again.{with_bytes, again};
 ghost use Rattle.zk_state.specs.Frames.{Frame, frames_of, total_of, with_words, with_frames, bounds_of};
 ghost use Rattle.zk_save.specs.Reading.{words_of, frames_read};

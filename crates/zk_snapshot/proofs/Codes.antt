@@ -28,23 +28,30 @@ split_same (x ∷ xs) (y ∷ ys) a b e h =
 pub same_2 : (m n : ℕ) → bytes_2 m ≡ bytes_2 n → m ≡ n
 same_2 m n h =
     let high : m / 256 ≡ n / 256 = cons_head (m / 256) (n / 256) (m % 256 ∷ []) (n % 256 ∷ []) h in
-    let low : m % 256 ≡ n % 256 = cons_head (m % 256) (n % 256) [] [] (cons_tail (m / 256) (n / 256) (m % 256 ∷ []) (n % 256 ∷ []) h) in
+    let low : m % 256 ≡ n % 256 = cons_head (m % 256) (n % 256) [] []
+    (cons_tail (m / 256) (n / 256) (m % 256 ∷ []) (n % 256 ∷ []) h) in
     omega (arith, high, low)
 
 pub same_4 : (m n : ℕ) → bytes_4 m ≡ bytes_4 n → m ≡ n
 same_4 m n h =
-    let one : m / 16777216 ≡ n / 16777216 = cons_head (m / 16777216) (n / 16777216) (m / 65536 % 256 ∷ m / 256 % 256 ∷ m % 256 ∷ []) (n / 65536 % 256 ∷ n / 256 % 256 ∷ n % 256 ∷ []) h in
-    let h2 = cons_tail (m / 16777216) (n / 16777216) (m / 65536 % 256 ∷ m / 256 % 256 ∷ m % 256 ∷ []) (n / 65536 % 256 ∷ n / 256 % 256 ∷ n % 256 ∷ []) h in
-    let two : m / 65536 % 256 ≡ n / 65536 % 256 = cons_head (m / 65536 % 256) (n / 65536 % 256) (m / 256 % 256 ∷ m % 256 ∷ []) (n / 256 % 256 ∷ n % 256 ∷ []) h2 in
-    let h3 = cons_tail (m / 65536 % 256) (n / 65536 % 256) (m / 256 % 256 ∷ m % 256 ∷ []) (n / 256 % 256 ∷ n % 256 ∷ []) h2 in
-    let three : m / 256 % 256 ≡ n / 256 % 256 = cons_head (m / 256 % 256) (n / 256 % 256) (m % 256 ∷ []) (n % 256 ∷ []) h3 in
+    let one : m / 16777216 ≡ n / 16777216 = cons_head (m / 16777216) (n / 16777216)
+    (m / 65536 % 256 ∷ m / 256 % 256 ∷ m % 256 ∷ []) (n / 65536 % 256 ∷ n / 256 % 256 ∷ n % 256 ∷ []) h in
+    let h2 = cons_tail (m / 16777216) (n / 16777216) (m / 65536 % 256 ∷ m / 256 % 256 ∷ m % 256 ∷ [])
+    (n / 65536 % 256 ∷ n / 256 % 256 ∷ n % 256 ∷ []) h in
+    let two : m / 65536 % 256 ≡ n / 65536 % 256 = cons_head (m / 65536 % 256) (n / 65536 % 256)
+    (m / 256 % 256 ∷ m % 256 ∷ []) (n / 256 % 256 ∷ n % 256 ∷ []) h2 in
+    let h3 = cons_tail (m / 65536 % 256) (n / 65536 % 256) (m / 256 % 256 ∷ m % 256 ∷ [])
+    (n / 256 % 256 ∷ n % 256 ∷ []) h2 in
+    let three : m / 256 % 256 ≡ n / 256 % 256 = cons_head (m / 256 % 256) (n / 256 % 256) (m % 256 ∷ [])
+    (n % 256 ∷ []) h3 in
     let h4 = cons_tail (m / 256 % 256) (n / 256 % 256) (m % 256 ∷ []) (n % 256 ∷ []) h3 in
     let four : m % 256 ≡ n % 256 = cons_head (m % 256) (n % 256) [] [] h4 in
     omega (arith, one, two, three, four)
 
 pub same_8 : (m n : ℕ) → bytes_8 m ≡ bytes_8 n → m ≡ n
 same_8 m n h =
-    let both = split_same (bytes_4 (m / 4294967296)) (bytes_4 (n / 4294967296)) (bytes_4 (m % 4294967296)) (bytes_4 (n % 4294967296)) refl h in
+    let both = split_same (bytes_4 (m / 4294967296)) (bytes_4 (n / 4294967296)) (bytes_4 (m % 4294967296))
+    (bytes_4 (n % 4294967296)) refl h in
     let high = same_4 (m / 4294967296) (n / 4294967296) both.0 in
     let low = same_4 (m % 4294967296) (n % 4294967296) both.1 in
     omega (arith, high, low)
@@ -52,8 +59,10 @@ same_8 m n h =
 pub same_store : (m n : Option ℕ) → store_bytes m ≡ store_bytes n → m ≡ n
 unfolding store_bytes
 same_store None None h = refl
-same_store None (Some n) h = let same : ◌≡◌ {A = ℕ} 0 1 = cons_head 0 1 (0 ∷ []) (n ∷ []) h in absurd (omega (arith, same))
-same_store (Some m) None h = let same : ◌≡◌ {A = ℕ} 1 0 = cons_head 1 0 (m ∷ []) (0 ∷ []) h in absurd (omega (arith, same))
+same_store None (Some n) h =
+    let same : ◌≡◌ {A = ℕ} 0 1 = cons_head 0 1 (0 ∷ []) (n ∷ []) h in absurd (omega (arith, same))
+same_store (Some m) None h =
+    let same : ◌≡◌ {A = ℕ} 1 0 = cons_head 1 0 (m ∷ []) (0 ∷ []) h in absurd (omega (arith, same))
 same_store (Some m) (Some n) h = ap (λ (k : ℕ). Some k) (cons_head m n [] [] (cons_tail 1 1 (m ∷ []) (n ∷ []) h))
 
 pub store_size : (m : Option ℕ) → length (store_bytes m) ≡ 2
@@ -64,8 +73,10 @@ store_size (Some m) = refl
 pub same_state : (m n : Option ℕ) → state_bytes m ≡ state_bytes n → m ≡ n
 unfolding state_bytes
 same_state None None h = refl
-same_state None (Some n) h = let same : ◌≡◌ {A = ℕ} 0 1 = cons_head 0 1 (bytes_8 0) (bytes_8 n) h in absurd (omega (arith, same))
-same_state (Some m) None h = let same : ◌≡◌ {A = ℕ} 1 0 = cons_head 1 0 (bytes_8 m) (bytes_8 0) h in absurd (omega (arith, same))
+same_state None (Some n) h =
+    let same : ◌≡◌ {A = ℕ} 0 1 = cons_head 0 1 (bytes_8 0) (bytes_8 n) h in absurd (omega (arith, same))
+same_state (Some m) None h =
+    let same : ◌≡◌ {A = ℕ} 1 0 = cons_head 1 0 (bytes_8 m) (bytes_8 0) h in absurd (omega (arith, same))
 same_state (Some m) (Some n) h = ap (λ (k : ℕ). Some k) (same_8 m n (cons_tail 1 1 (bytes_8 m) (bytes_8 n) h))
 
 pub state_size : (m : Option ℕ) → length (state_bytes m) ≡ 9

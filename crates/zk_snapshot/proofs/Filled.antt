@@ -7,7 +7,9 @@ use Rattle.zk_state.specs.Frames.{FrameList, bounds_of, first_frames}
 use Rattle.zk_step.specs.Laws.{fixed_parts}
 use Rattle.std.specs.Prelude.{if◌then◌else◌}
 
-put_by : (m n : MemoryMap) (a v : ℕ) (p q : Bool) → (if p then (if q then Ok (with_byte m a v) else Err ReadOnly) else Err BadAddress) ≡ Ok n → fixed_parts n ≡ fixed_parts m
+put_by : (m n : MemoryMap) (a v : ℕ) (p q : Bool)
+    → (if p then (if q then Ok (with_byte m a v) else Err ReadOnly) else Err BadAddress) ≡ Ok n
+    → fixed_parts n ≡ fixed_parts m
 unfolding fixed_parts
 put_by m n a v true true h = let same : with_byte m a v ≡ n = cc in sym (ap fixed_parts same)
 put_by m n a v true false h = absurd cc

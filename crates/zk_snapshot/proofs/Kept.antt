@@ -24,18 +24,30 @@ waiting_has (Some w) e P waits holds = holds
 pub while_kept : (s : Session) (P : Type 0) → HasSnapshot s → OnSome (asking_of s.waiting) P → P
 while_kept s P has holds = waiting_has s.waiting has.0 P has.1.0 holds
 
-pub are_there : (s : Session) (u : UndoStates) (f : FrameList) → HasSnapshot s → OnSome (asking_of s.waiting) (AreOf s.state.game.memory s.state.game.frames u) → bounds_of f ≡ bounds_of s.state.game.frames → AreOf s.state.game.memory f u
-are_there s u f has are bounds = same_of s.state.game.memory s.state.game.memory s.state.game.frames f u refl bounds (while_kept s (AreOf s.state.game.memory s.state.game.frames u) has are)
+pub are_there : (s : Session) (u : UndoStates) (f : FrameList) → HasSnapshot s
+    → OnSome (asking_of s.waiting) (AreOf s.state.game.memory s.state.game.frames u)
+    → bounds_of f ≡ bounds_of s.state.game.frames → AreOf s.state.game.memory f u
+are_there s u f has are bounds = same_of s.state.game.memory s.state.game.memory s.state.game.frames f u
+    refl bounds (while_kept s (AreOf s.state.game.memory s.state.game.frames u) has are)
 
-pub is_kept : (s : Session) (u : UndoStates) → HasSnapshot s → bounds_of s.state.game.frames ≡ (s.limits.frames, s.limits.words) → OnSome (asking_of s.waiting) (s.stopped ≡ None) → OnSome (asking_of s.waiting) (s.state.due ≡ []) → OnSome (asking_of s.waiting) (s.left ≡ None) → OnSome (asking_of s.waiting) (s.state.game.memory.undo_states ≡ s.limits.undo) → IsOfFile s.state.game.memory
-    → IfSome s.waiting (λ w. instr_at s.state.game.memory s.state.pc ≡ Ok w.instruction) → s.state.undo ≡ states_in s.state.game.memory.file u → OnSome (asking_of s.waiting) (AreOf s.state.game.memory s.state.game.frames u) → s.state.game.memory.static_base ≤ length s.state.game.memory.file → IsKept s
+pub is_kept : (s : Session) (u : UndoStates) → HasSnapshot s
+    → bounds_of s.state.game.frames ≡ (s.limits.frames, s.limits.words)
+    → OnSome (asking_of s.waiting) (s.stopped ≡ None) → OnSome (asking_of s.waiting) (s.state.due ≡ [])
+    → OnSome (asking_of s.waiting) (s.left ≡ None) → OnSome (asking_of s.waiting)
+    (s.state.game.memory.undo_states ≡ s.limits.undo) → IsOfFile s.state.game.memory
+    → IfSome s.waiting (λ w. instr_at s.state.game.memory s.state.pc ≡ Ok w.instruction)
+    → s.state.undo ≡ states_in s.state.game.memory.file u → OnSome (asking_of s.waiting)
+    (AreOf s.state.game.memory s.state.game.frames u) → s.state.game.memory.static_base ≤ length
+    s.state.game.memory.file → IsKept s
 is_kept s u has bounds runs due shown undo of_file fetched states are within = record {
   has = has;
   bounds = bounds;
   undo = while_kept s (s.state.game.memory.undo_states ≡ s.limits.undo) has undo;
   of_file = of_file;
   within = within;
-  sized = rw states (all_sized s.state.game.memory s.state.game.frames u within (while_kept s (AreOf s.state.game.memory s.state.game.frames u) has are));
+  sized =
+      rw states (all_sized s.state.game.memory s.state.game.frames u within
+      (while_kept s (AreOf s.state.game.memory s.state.game.frames u) has are));
   due = while_kept s (s.state.due ≡ []) has due;
   stopped = while_kept s (s.stopped ≡ None) has runs;
   left = while_kept s (s.left ≡ None) has shown;

@@ -3,10 +3,8 @@ pub mod Written
 pub mod Filled
 pub mod Waits
 pub mod Codes
-pub mod Grown
-pub mod SameStates
-pub mod Unique
 pub mod Kept
 pub mod Sizes
 pub mod Fitting
 pub mod Longest
+pub mod guards

@@ -35,10 +35,13 @@ pub record IsKept (s : Session) : Type 0 where
   pub left : s.left ≡ None
   pub fetched : IfSome s.waiting (λ w. instr_at s.state.game.memory s.state.pc ≡ Ok w.instruction)
 
--- two machines that have the same snapshot, each with some of its newest states, are the same, but for what it does not keep
+-- two machines that have the same snapshot, each with some of its newest states, are the same, but for what it does not
+-- keep
 abbrev pub IsOfOnePlay : Session → Session → Type 0
-IsOfOnePlay a b = (m n : ℕ) → snapshot_with (newest m a) a ≡ snapshot_with (newest n b) b → with_kept (newest m a) a ≡ with_kept (newest n b) b
+IsOfOnePlay a b = (m n : ℕ) → snapshot_with (newest m a) a ≡ snapshot_with (newest n b) b
+    → with_kept (newest m a) a ≡ with_kept (newest n b) b
 
 -- what fits in so many bytes are the newest states, and no more bytes
 abbrev pub FitsNewest : List ℕ → List WholeState → Type 0
-FitsNewest file ws = (most : ℕ) → ((n : ℕ) × (fitting file most ws ≡ take n ws)) × (length (flat_map (kept_bytes file) (fitting file most ws)) ≤ most)
+FitsNewest file ws = (most : ℕ) → ((n : ℕ) × (fitting file most ws ≡ take n ws))
+    × (length (flat_map (kept_bytes file) (fitting file most ws)) ≤ most)

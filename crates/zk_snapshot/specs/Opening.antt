@@ -2,7 +2,8 @@
 use Rattle.std.specs.Prelude.{◌≡◌, ◌⊎◌, not, ℕ, List, [], ◌∷◌, take, drop, Option, Some, None, if◌then◌else◌}
 use Rattle.std.specs.Str.{bytes_eq}
 use Rattle.zk_snapshot.specs.declared.opening.SnapshotError.{SnapshotError}
-use Rattle.zk_snapshot.specs.declared.opening.SnapshotError.TheVariants.{NotASnapshot, OtherVersion, OtherStory, Damaged, OutOfMemory}
+use Rattle.zk_snapshot.specs.declared.opening.SnapshotError.TheVariants.{NotASnapshot, OtherVersion, OtherStory}
+use Rattle.zk_snapshot.specs.declared.opening.SnapshotError.TheVariants.{Damaged, OutOfMemory}
 use Rattle.zk_snapshot.specs.Snapshots.{name_bytes, version_byte, story_bytes, snapshot_with, HasSnapshot}
 use Rattle.zk_vm.specs.Sessions.{Session}
 

@@ -1,5 +1,6 @@
 -- The bytes of a snapshot: a machine that waits for a line or a character. Numbers have their high byte first.
-use Rattle.std.specs.Prelude.{ℕ, zero, suc, ◌+◌, ◌-◌, ◌*◌, ◌/◌, ◌%◌, Bool, true, false, List, [], ◌∷◌, ◌++◌, length, take, reverse, nat_le, if◌then◌else◌, Option, Some, None}
+use Rattle.std.specs.Prelude.{ℕ, zero, suc, ◌+◌, ◌-◌, ◌*◌, ◌/◌, ◌%◌, Bool, true, false, List, [], ◌∷◌, ◌++◌, length}
+use Rattle.std.specs.Prelude.{take, reverse, nat_le, if◌then◌else◌, Option, Some, None}
 use Rattle.std.specs.List.{flat_map}
 use Rattle.zk_mem.specs.Header.{header_of}
 use Rattle.zk_state.specs.Frames.{Frame, frames_of}
@@ -7,8 +8,7 @@ use Rattle.zk_save.specs.Quetzal.{bytes_2, bytes_4, words_bytes}
 use Rattle.zk_save.specs.States.{WholeState, packed_of}
 use Rattle.zk_term.specs.Windows.{Windows, row_text}
 use Rattle.zk_term.specs.declared.windows.Window.{Window}
-use Rattle.zk_term.specs.declared.windows.Window.TheVariants.{Lower}
-use Rattle.zk_term.specs.declared.windows.Window.TheVariants.{Upper as UpperWindow}
+use Rattle.zk_term.specs.declared.windows.Window.TheVariants.{Lower, Upper as UpperWindow}
 use Rattle.zk_step.specs.declared.state.ending.Event.{Event}
 use Rattle.zk_step.specs.declared.state.ending.Event.TheVariants.{Line, Char, Save, Restore}
 use Rattle.zk_step.specs.declared.state.game_state.GameState.{GameState}
@@ -56,10 +56,11 @@ name_bytes = 90 ∷ 75 ∷ 83 ∷ 78 ∷ []
 abbrev pub version_byte : ℕ
 version_byte = 2
 
--- what a story's file is known by, in 18 bytes: its length, its release, its serial number, its checksum, and the sum of all
--- its bytes
+-- what a story's file is known by, in 18 bytes: its length, its release, its serial number, its checksum, and the sum
+-- of all its bytes
 unfoldable pub story_bytes : List ℕ → List ℕ
-story_bytes file = bytes_4 (length file) ++ bytes_2 (header_of file).release ++ (header_of file).serial ++ bytes_2 (header_of file).checksum ++ bytes_4 (sum_of file)
+story_bytes file = bytes_4 (length file) ++ bytes_2 (header_of file).release ++ (header_of file).serial
+    ++ bytes_2 (header_of file).checksum ++ bytes_4 (sum_of file)
 
 -- ---- the machine
 
@@ -71,8 +72,8 @@ limits_bytes l = bytes_2 l.frames ++ bytes_2 l.words ++ l.undo ∷ [] ++ bytes_4
 unfoldable pub place_bytes : Place → List ℕ
 place_bytes p = bytes_4 p.pc ++ bytes_4 p.steps ++ bytes_4 p.reads
 
--- what is waited for, in 5 bytes: 1 with the addresses of the text buffer and the parse buffer for a line, 2 and zeros for a
--- character; a machine that waits for a saved game has no snapshot
+-- what is waited for, in 5 bytes: 1 with the addresses of the text buffer and the parse buffer for a line, 2 and zeros
+-- for a character; a machine that waits for a saved game has no snapshot
 unfoldable pub event_bytes : Event → List ℕ
 event_bytes (Line text parse) = 1 ∷ [] ++ bytes_2 text ++ bytes_2 parse
 event_bytes Char = 2 ∷ [] ++ bytes_2 0 ++ bytes_2 0
@@ -113,10 +114,11 @@ rows_bytes (suc n) w = rows_bytes n w ++ row_bytes (row_text w (suc n))
 unfoldable pub windows_bytes : Windows → List ℕ
 windows_bytes w = w.height ∷ [] ++ bytes_2 w.row ++ w.column ∷ [] ++ window_byte w.selected ∷ [] ++ rows_bytes 255 w
 
--- a frame: the address that it returns to, what takes its result, how many arguments it was given, how many local variables
--- and words on its evaluation stack it has, and both
+-- a frame: the address that it returns to, what takes its result, how many arguments it was given, how many local
+-- variables and words on its evaluation stack it has, and both
 unfoldable pub frame_bytes : Frame → List ℕ
-frame_bytes f = bytes_4 f.pc ++ store_bytes f.result ++ f.supplied ∷ [] ++ length f.locals ∷ [] ++ bytes_2 (length f.words) ++ words_bytes f.locals ++ words_bytes f.words
+frame_bytes f = bytes_4 f.pc ++ store_bytes f.result ++ f.supplied ∷ [] ++ length f.locals ∷ []
+    ++ bytes_2 (length f.words) ++ words_bytes f.locals ++ words_bytes f.words
 
 -- frames, newest first: how many they are, and all of them, the first before the others
 unfoldable pub frames_bytes : List Frame → List ℕ
@@ -133,12 +135,14 @@ streams_bytes s = truth_byte s.screen ∷ length s.tables ∷ [] ++ flat_map tab
 -- the game state: the view, whether the screen's last line is empty, the output streams, the random numbers, the upper
 -- window, dynamic memory as it stands, and the frames
 unfoldable pub game_bytes : GameState → List ℕ
-game_bytes g = view_byte g.view ∷ truth_byte g.at_line_start ∷ [] ++ streams_bytes g.streams ++ generators_bytes g.generators ++ windows_bytes g.windows ++ take g.memory.static_base g.memory.bytes ++ frames_bytes (frames_of g.frames)
+game_bytes g = view_byte g.view ∷ truth_byte g.at_line_start ∷ [] ++ streams_bytes g.streams
+    ++ generators_bytes g.generators ++ windows_bytes g.windows ++ take g.memory.static_base g.memory.bytes
+    ++ frames_bytes (frames_of g.frames)
 
 -- ---- states to go back to
 
--- a state: what its dynamic memory differs in from the story's file, packed, after the length of that; its frames, and the
--- address where it goes on
+-- a state: what its dynamic memory differs in from the story's file, packed, after the length of that; its frames, and
+-- the address where it goes on
 unfoldable pub kept_bytes : List ℕ → WholeState → List ℕ
 kept_bytes file w = bytes_4 (length (packed_of file w)) ++ packed_of file w ++ frames_bytes w.frames ++ bytes_4 w.pc
 
@@ -163,7 +167,8 @@ head_bytes file = name_bytes ++ version_byte ∷ [] ++ story_bytes file
 unfoldable pub body_bytes : List WholeState → Session → List ℕ
 body_bytes states s =
     let file = s.state.game.memory.file in
-    head_bytes file ++ limits_bytes s.limits ++ place_bytes (place_of s) ++ asking_bytes (asking_of s.waiting) ++ game_bytes s.state.game ++ states_bytes file states
+    head_bytes file ++ limits_bytes s.limits ++ place_bytes (place_of s) ++ asking_bytes (asking_of s.waiting)
+    ++ game_bytes s.state.game ++ states_bytes file states
 
 -- bytes with their sum after them
 abbrev pub with_sum : List ℕ → List ℕ

@@ -19,8 +19,8 @@ fn is_kept(machine: &Machine)
     machine.memory().dynamic();
 }
 
-/// A snapshot is that of one play alone: two machines of a story that have the same snapshot, each with some of its newest
-/// states to go back to, are the same, but for the other states and the grid that is gone. So the machine that
+/// A snapshot is that of one play alone: two machines of a story that have the same snapshot, each with some of its
+/// newest states to go back to, are the same, but for the other states and the grid that is gone. So the machine that
 /// `open_snapshot` makes of what `snapshot` wrote goes on with the play.
 pub fn one_play(first: &Machine, second: &Machine)
     requires first { HasSnapshot first.now }

@@ -87,8 +87,8 @@ fn head_refusal(
     Ok(None)
 }
 
-/// A machine that is made of the bytes after the first 23, if they are of use. Memory and frames are room for each state to
-/// go back to, and get their own bytes after these.
+/// A machine that is made of the bytes after the first 23, if they are of use. Memory and frames are room for each
+/// state to go back to, and get their own bytes after these.
 fn machine_in(
     alloc: Global,
     mut memory: Memory,
@@ -188,8 +188,8 @@ fn opened(
     Ok(Ok(machine))
 }
 
-/// The machine whose snapshot some bytes are: it waits where the other one waited, for the same answers. The states to go
-/// back to are those in the snapshot, and there is no grid that is gone.
+/// The machine whose snapshot some bytes are: it waits where the other one waited, for the same answers. The states to
+/// go back to are those in the snapshot, and there is no grid that is gone.
 ///
 /// The refusals, in the order in which they are looked for: `NotASnapshot` where the bytes don't begin with the
 /// name; `OtherVersion` where another version of the format follows; `OtherStory` where the length, the release,

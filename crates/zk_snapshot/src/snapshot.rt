@@ -2,7 +2,8 @@
 
 ghost use Rattle.std.specs.Prelude.{◌≡◌, ◌≤◌, ◌-◌, ◌^◌, ◌++◌, ◌↔◌, IsTrue, IfOk, OnOk, length, min, take};
 ghost use Rattle.zk_state.specs.Frames.{bounds_of};
-ghost use Rattle.zk_snapshot.specs.Snapshots.{asking_bytes, body_bytes, snapshot_of, snapshot_with, longest_of, HasSnapshot};
+ghost use Rattle.zk_snapshot.specs.Snapshots.{asking_bytes, body_bytes, snapshot_of, snapshot_with, longest_of};
+ghost use Rattle.zk_snapshot.specs.Snapshots.{HasSnapshot};
 
 use crate::states::{fitting, put_states, room_for};
 use crate::sums::sum_of;

@@ -5,7 +5,10 @@ ghost use Rattle.zk_mem.specs.Header.{header_of};
 ghost use Rattle.zk_save.specs.Quetzal.{bytes_2, bytes_4, words_bytes};
 ghost use Rattle.zk_state.specs.Frames.{frames_of};
 ghost use Rattle.std.specs.List.{flat_map};
-ghost use Rattle.zk_snapshot.specs.Snapshots.{bytes_8, truth_byte, store_bytes, state_bytes, story_bytes, limits_bytes, place_bytes, event_bytes, view_byte, window_byte, generators_bytes, row_bytes, rows_bytes, windows_bytes, frame_bytes, frames_bytes, table_bytes, streams_bytes, game_bytes, head_bytes};
+ghost use Rattle.zk_snapshot.specs.Snapshots.{bytes_8, truth_byte, store_bytes, state_bytes, story_bytes, limits_bytes};
+ghost use Rattle.zk_snapshot.specs.Snapshots.{place_bytes, event_bytes, view_byte, window_byte, generators_bytes};
+ghost use Rattle.zk_snapshot.specs.Snapshots.{row_bytes, rows_bytes, windows_bytes, frame_bytes, frames_bytes};
+ghost use Rattle.zk_snapshot.specs.Snapshots.{table_bytes, streams_bytes, game_bytes, head_bytes};
 
 use crate::sums::sum_of;
 use std::alloc::AllocError;
@@ -262,7 +265,7 @@ fn put_frame(out: &mut Vec<u8>, frame: &FrameView) -> Result<(), AllocError>
 }
 
 /// Writes all frames, the first before the others.
-#[tactic(auto, using(crate::proofs::Written::frames_start, crate::proofs::Written::frames_more, crate::proofs::Written::frames_end))]
+#[tactic(auto, using(crate::proofs::Written::of_put_all_frames))]
 fn put_all_frames(out: &mut Vec<u8>, frames: &Frames) -> Result<(), AllocError>
     ensures { OnOk result
         (out.new.items ≡ out.old.items ++ flat_map frame_bytes (reverse (frames_of frames.now))) }

@@ -1,9 +1,12 @@
 // Worked examples of the definitions, which refuse one that is turned together with its body.
 
-ghost use Rattle.zk_state.specs.Examples.{LastInFirstOut, NewestInPlace, OwnWordsAlone, LocalsFromOne, CallsPutAFrame, ReturnsDropAFrame, FramesCountFromZero, ValuesAreTaken, ValuesAreGivenBack, BoundsRefuse, BeginsInOneFrame, LimitsHaveNumbers};
+ghost use Rattle.zk_state.specs.guards.Examples.{LastInFirstOut, NewestInPlace, OwnWordsAlone, LocalsFromOne};
+ghost use Rattle.zk_state.specs.guards.Examples.{CallsPutAFrame, ReturnsDropAFrame, FramesCountFromZero};
+ghost use Rattle.zk_state.specs.guards.Examples.{ValuesAreTaken, ValuesAreGivenBack, BoundsRefuse, BeginsInOneFrame};
+ghost use Rattle.zk_state.specs.guards.Examples.{LimitsHaveNumbers};
 
 /// The evaluation stack of a routine (Standard, section 6.3).
-#[tactic(auto, unfolding(crate::specs::Frames::bounds_of, crate::specs::Frames::sizes_of, crate::specs::Frames::within_bounds, crate::specs::Frames::pushed, crate::specs::Frames::popped, crate::specs::Frames::top_of, crate::specs::Frames::with_top, crate::specs::Frames::local_of, crate::specs::Frames::with_local, crate::specs::Frames::called, crate::specs::Frames::left, crate::specs::Frames::unwound, crate::specs::Frames::taken, crate::specs::Frames::given_back))]
+#[tactic(auto, unfolding(crate::proofs::guards::Opened::examples))]
 pub fn stack_by_example()
     ensures last_in_first_out { LastInFirstOut }
     ensures newest_in_place { NewestInPlace }
@@ -11,13 +14,13 @@ pub fn stack_by_example()
 {}
 
 /// Local variables (Standard, section 4.2.2).
-#[tactic(auto, unfolding(crate::specs::Frames::bounds_of, crate::specs::Frames::sizes_of, crate::specs::Frames::within_bounds, crate::specs::Frames::pushed, crate::specs::Frames::popped, crate::specs::Frames::top_of, crate::specs::Frames::with_top, crate::specs::Frames::local_of, crate::specs::Frames::with_local, crate::specs::Frames::called, crate::specs::Frames::left, crate::specs::Frames::unwound, crate::specs::Frames::taken, crate::specs::Frames::given_back))]
+#[tactic(auto, unfolding(crate::proofs::guards::Opened::examples))]
 pub fn locals_by_example()
     ensures { LocalsFromOne }
 {}
 
 /// Calls, returns and throws (Standard, sections 6.3, 6.4 and 15).
-#[tactic(auto, unfolding(crate::specs::Frames::bounds_of, crate::specs::Frames::sizes_of, crate::specs::Frames::within_bounds, crate::specs::Frames::pushed, crate::specs::Frames::popped, crate::specs::Frames::top_of, crate::specs::Frames::with_top, crate::specs::Frames::local_of, crate::specs::Frames::with_local, crate::specs::Frames::called, crate::specs::Frames::left, crate::specs::Frames::unwound, crate::specs::Frames::taken, crate::specs::Frames::given_back))]
+#[tactic(auto, unfolding(crate::proofs::guards::Opened::examples))]
 pub fn frames_by_example()
     ensures calls_put_a_frame { CallsPutAFrame }
     ensures returns_drop_a_frame { ReturnsDropAFrame }
@@ -27,7 +30,7 @@ pub fn frames_by_example()
 {}
 
 /// The bounds on frames and words, and the numbers of limits.
-#[tactic(auto, unfolding(crate::specs::Frames::bounds_of, crate::specs::Frames::sizes_of, crate::specs::Frames::within_bounds, crate::specs::Frames::pushed, crate::specs::Frames::popped, crate::specs::Frames::top_of, crate::specs::Frames::with_top, crate::specs::Frames::local_of, crate::specs::Frames::with_local, crate::specs::Frames::called, crate::specs::Frames::left, crate::specs::Frames::unwound, crate::specs::Frames::taken, crate::specs::Frames::given_back))]
+#[tactic(auto, unfolding(crate::proofs::guards::Opened::examples))]
 pub fn bounds_by_example()
     ensures bounds_refuse { BoundsRefuse }
     ensures begins_in_one_frame { BeginsInOneFrame }

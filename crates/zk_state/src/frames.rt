@@ -1,8 +1,11 @@
 // Frames: one list of all words, and a record for each frame that says which of them are its own.
 
-ghost use Rattle.std.specs.Prelude.{ℕ, ◌≡◌, ◌+◌, ◌<◌, ◌≤◌, ◌^◌, ◌++◌, ◌∷◌, [], ◌==◌, if◌then◌else◌, nat_le, ◌&&◌, length, take, reverse, slice_get, slice_index_or, Some, MatchResult, IfOk};
+ghost use Rattle.std.specs.Prelude.{ℕ, ◌≡◌, ◌+◌, ◌<◌, ◌≤◌, ◌^◌, ◌++◌, ◌∷◌, [], ◌==◌, if◌then◌else◌, nat_le, ◌&&◌};
+ghost use Rattle.std.specs.Prelude.{length, take, reverse, slice_get, slice_index_or, Some, MatchResult, IfOk};
 ghost use Rattle.zk_state.specs.Flat.{frame_of};
-ghost use Rattle.zk_state.specs.Frames.{frames_of, first_frames, with_frames, sizes_of, BeginsFirst, IsFrame, total_of, pushed, popped, top_of, with_top, local_of, with_local, called, filled, left, unwound, IsBounded, GivesBack, RefusesBack};
+ghost use Rattle.zk_state.specs.Frames.{frames_of, first_frames, with_frames, sizes_of, BeginsFirst, IsFrame, total_of};
+ghost use Rattle.zk_state.specs.Frames.{pushed, popped, top_of, with_top, local_of, with_local, called, filled, left};
+ghost use Rattle.zk_state.specs.Frames.{unwound, IsBounded, GivesBack, RefusesBack};
 
 use crate::records::{FIRST, FrameRecord, Records};
 use crate::refusal::{Limit, Refusal};
@@ -140,7 +143,7 @@ fn copy_words(words: &mut Vec<u16>, at: usize, from: &[u16])
 
 /// Fills so many words from an index on: with arguments, and past their last with 0.
 #[inline(always)]
-#[tactic(auto, using(crate::proofs::Calls::fill_step, crate::proofs::Calls::fill_end, crate::proofs::Calls::filled_length))]
+#[tactic(auto, using(crate::proofs::Calls::of_fill_words))]
 fn fill_words(words: &mut Vec<u16>, at: usize, count: usize, from: &[u16])
     requires { at + count ≤ length words.old.items }
     ensures front { take (at + count) words.new.items

@@ -1,5 +1,6 @@
 -- Codes for a table of stream 3.
-use Rattle.std.proofs.Common.{◌≡◌, ◌∙◌, ◌≤◌, ◌<◌, ◌⊎◌, inl, inr, ℕ, ◌+◌, ◌-◌, Bool, true, false, List, [], ◌∷◌, ◌++◌, length, Some, None, Result, Ok, Err, refl, ap, sym, arith, append_assoc, nat_lt, nat_le}
+use Rattle.std.proofs.Common.{◌≡◌, ◌∙◌, ◌≤◌, ◌<◌, ◌⊎◌, inl, inr, ℕ, ◌+◌, ◌-◌, Bool, true, false, List, [], ◌∷◌, ◌++◌}
+use Rattle.std.proofs.Common.{length, Some, None, Result, Ok, Err, refl, ap, sym, arith, append_assoc, nat_lt, nat_le}
 use Rattle.std.specs.Prelude.{◌==◌, if◌then◌else◌}
 use Rattle.std.proofs.lemmas.Bool.Decides.{nat_tests}
 use Rattle.std.proofs.lemmas.List.{length-take}
@@ -49,24 +50,36 @@ plain_code e code low high =
     rw (zero, nine, eleven, thirteen, from, to) refl
 
 -- where there was no room for a text, there is none for a longer one
-pub longer : (e : ExtraTable) (a b : List ℕ) (us more : List Unit) → FirstPart b (a ++ stored_all e us) → FirstPart b (a ++ stored_all e (us ++ more))
-longer e a b us more h =
-    (h.0, (h.1.0 ++ stored_all e more, ap (λ (cs : List ℕ). a ++ cs) (stored_all-append e us more) ∙ sym (append_assoc a (stored_all e us) (stored_all e more)) ∙ ap (λ (cs : List ℕ). cs ++ stored_all e more) h.1.1 ∙ append_assoc b h.1.0 (stored_all e more)))
+pub longer : (e : ExtraTable) (a b : List ℕ) (us more : List Unit) → FirstPart b (a ++ stored_all e us)
+    → FirstPart b (a ++ stored_all e (us ++ more))
+longer e a b us more h = (
+  h.0,
+  (
+    h.1.0 ++ stored_all e more,
+    ap (λ (cs : List ℕ). a ++ cs) (stored_all-append e us more)
+        ∙ sym (append_assoc a (stored_all e us) (stored_all e more))
+        ∙ ap (λ (cs : List ℕ). cs ++ stored_all e more) h.1.1 ∙ append_assoc b h.1.0 (stored_all e more),
+  ),
+)
 
 -- bytes are stored below 65,536
 byte_low : (m n : MemoryMap) (a v : ℕ) → byte_put m a v ≡ Ok n → a < 65536
 unfolding byte_put
 byte_low m n a v h = go (nat_lt a (readable_end m)) refl h
   where
-    go : (b : Bool) → nat_lt a (readable_end m) ≡ b → (if b then (if nat_lt a m.static_base then Ok (with_byte m a v) else Err ReadOnly) else Err BadAddress) ≡ Ok n → a < 65536
+    go : (b : Bool) → nat_lt a (readable_end m) ≡ b
+        → (if b then (if nat_lt a m.static_base then Ok (with_byte m a v) else Err ReadOnly) else Err BadAddress)
+        ≡ Ok n → a < 65536
     go true e k = grind (arith, nat_tests, e)
     go false e k = absurd cc
 
-stored_parts : {A B : Type 0} (r : Result A Fault) (k : A → Result B Fault) (y : B) → (r >>= k) ≡ Ok y → (x : A) × (r ≡ Ok x) × (k x ≡ Ok y)
+stored_parts : {A B : Type 0} (r : Result A Fault) (k : A → Result B Fault) (y : B) → (r >>= k) ≡ Ok y
+    → (x : A) × (r ≡ Ok x) × (k x ≡ Ok y)
 stored_parts {A} {B} (Ok x) k y h = (x, refl, h)
 stored_parts {A} {B} (Err f) k y h = absurd cc
 
-pub bytes_low : (m n : MemoryMap) (a : ℕ) (bs : List ℕ) → bytes_put m a bs ≡ Ok n → (length bs ≡ 0) ⊎ (a + length bs ≤ 65536)
+pub bytes_low : (m n : MemoryMap) (a : ℕ) (bs : List ℕ) → bytes_put m a bs ≡ Ok n
+    → (length bs ≡ 0) ⊎ (a + length bs ≤ 65536)
 unfolding bytes_put
 bytes_low m n a [] h = inl refl
 bytes_low m n a (b ∷ bs) h =
@@ -79,21 +92,26 @@ bytes_low m n a (b ∷ bs) h =
     go (inr rest) low = omega (arith, rest)
 
 -- what refuses a first part refuses the whole
-fault_later : {A B : Type 0} (r : Result A Fault) (k l : A → Result B Fault) (f : Fault) → ((x : A) → k x ≡ Err f → l x ≡ Err f) → (r >>= k) ≡ Err f → (r >>= l) ≡ Err f
+fault_later : {A B : Type 0} (r : Result A Fault) (k l : A → Result B Fault) (f : Fault)
+    → ((x : A) → k x ≡ Err f → l x ≡ Err f) → (r >>= k) ≡ Err f → (r >>= l) ≡ Err f
 fault_later {A} {B} (Ok x) k l f on h = on x h
 fault_later {A} {B} (Err g) k l f on h = cc
 
-part_refused : (m : MemoryMap) (a : ℕ) (bs more : List ℕ) (f : Fault) → bytes_put m a bs ≡ Err f → bytes_put m a (bs ++ more) ≡ Err f
+part_refused : (m : MemoryMap) (a : ℕ) (bs more : List ℕ) (f : Fault) → bytes_put m a bs ≡ Err f
+    → bytes_put m a (bs ++ more) ≡ Err f
 unfolding bytes_put
 part_refused m a [] more f h = absurd cc
-part_refused m a (b ∷ bs) more f h = fault_later (byte_put m a b) (λ o. bytes_put o (a + 1) bs) (λ o. bytes_put o (a + 1) (bs ++ more)) f (λ o k. part_refused o (a + 1) bs more f k) h
+part_refused m a (b ∷ bs) more f h = fault_later (byte_put m a b) (λ o. bytes_put o (a + 1) bs)
+    (λ o. bytes_put o (a + 1) (bs ++ more)) f (λ o k. part_refused o (a + 1) bs more f k) h
 
-pub all_refused : (m : MemoryMap) (a : ℕ) (got all : List ℕ) (f : Fault) → Collected got all → bytes_put m a got ≡ Err f → bytes_put m a all ≡ Err f
+pub all_refused : (m : MemoryMap) (a : ℕ) (got all : List ℕ) (f : Fault) → Collected got all
+    → bytes_put m a got ≡ Err f → bytes_put m a all ≡ Err f
 all_refused m a got all f (inl same) h = rw (← same) h
 all_refused m a got all f (inr part) h = rw part.1.1 (part_refused m a got part.1.0 f h)
 
 -- what was stored is all of it, since a list that is full finds no place
-pub all_stored : (m n : MemoryMap) (a : ℕ) (got all : List ℕ) → Collected got all → 1 ≤ a → bytes_put m a got ≡ Ok n → got ≡ all
+pub all_stored : (m n : MemoryMap) (a : ℕ) (got all : List ℕ) → Collected got all → 1 ≤ a
+    → bytes_put m a got ≡ Ok n → got ≡ all
 all_stored m n a got all (inl same) low h = same
 all_stored m n a got all (inr part) low h = go (bytes_low m n a got h)
   where
@@ -102,7 +120,8 @@ all_stored m n a got all (inr part) low h = go (bytes_low m n a got h)
     go (inr few) = absurd (omega (arith, few, part.0))
 
 -- the newest table's count goes on to fit
-pub few_stored : (m n : MemoryMap) (address count : ℕ) (got : List ℕ) → count < 65536 → bytes_put m (address + 2 + count) got ≡ Ok n → count + length got < 65536
+pub few_stored : (m n : MemoryMap) (address count : ℕ) (got : List ℕ) → count < 65536
+    → bytes_put m (address + 2 + count) got ≡ Ok n → count + length got < 65536
 few_stored m n address count got low h = go (bytes_low m n (address + 2 + count) got h)
   where
     go : ((length got ≡ 0) ⊎ (address + 2 + count + length got ≤ 65536)) → count + length got < 65536

@@ -11,7 +11,8 @@ use Rattle.zk_step.specs.declared.state.ending.Ending.{Ending}
 use Rattle.zk_step.specs.declared.state.ending.Next.{Next}
 use Rattle.zk_step.specs.declared.state.ending.Next.TheVariants.{At, Asks}
 use Rattle.zk_step.specs.declared.state.ending.Output.{Output}
-use Rattle.zk_step.specs.declared.state.ending.Output.TheVariants.{Nothing, Status, Code, Character, Number, Text, Line, Rows}
+use Rattle.zk_step.specs.declared.state.ending.Output.TheVariants.{Nothing, Status, Code, Character, Number, Text, Line}
+use Rattle.zk_step.specs.declared.state.ending.Output.TheVariants.{Rows}
 use Rattle.zk_step.specs.declared.state.game_state.GameState.{GameState}
 use Rattle.zk_step.specs.Effects.{effect_of}
 use Rattle.zk_step.specs.Finish.{finished}
@@ -27,10 +28,12 @@ use Rattle.zk_step.proofs.Ends.{ends_as}
 use Rattle.zk_step.proofs.Operands.{operands_memory}
 use Rattle.zk_step.proofs.WithinBounds.{next_is}
 
-pub has_begun : (found w : GameState) (i : Instr) (vs : List ℕ) (e : Effect) → operands_read found i.operands ≡ Ok (w, vs) → effect_of w i vs ≡ Ok (w, e) → HasBegun found i w vs e
+pub has_begun : (found w : GameState) (i : Instr) (vs : List ℕ) (e : Effect)
+    → operands_read found i.operands ≡ Ok (w, vs) → effect_of w i vs ≡ Ok (w, e) → HasBegun found i w vs e
 has_begun found w i vs e h k = record { taken = w; values = h; made = k }
 
-by_tables : (w : GameState) (o : Output) → IsLong o → routed w.memory w o ≡ routed_by (newest_of w.streams.tables) w.memory w o
+by_tables : (w : GameState) (o : Output) → IsLong o → routed w.memory w o ≡ routed_by (newest_of w.streams.tables)
+    w.memory w o
 unfolding routed
 by_tables w (Text a) h = refl
 by_tables w (Line a) h = refl
@@ -42,7 +45,9 @@ by_tables w (Character c) h = absurd h
 by_tables w (Number n) h = absurd h
 
 -- what may be long is routed by the tables that are open
-pub long_routed : (found w : GameState) (i : Instr) (vs : List ℕ) (o : Output) → operands_read found i.operands ≡ Ok (w, vs) → IsLong o → routed found.memory w o ≡ routed_by (newest_of w.streams.tables) w.memory w o
+pub long_routed : (found w : GameState) (i : Instr) (vs : List ℕ) (o : Output)
+    → operands_read found i.operands ≡ Ok (w, vs) → IsLong o → routed found.memory w o ≡ routed_by
+    (newest_of w.streams.tables) w.memory w o
 long_routed found w i vs o h long = rw (← operands_memory i.operands found w vs h) (by_tables w o long)
 
 pub long_of : (o : Output) (x : Rest) → whole_of o ≡ Some x → IsLong o
@@ -56,9 +61,11 @@ long_of (Character c) x e = absurd cc
 long_of (Number n) x e = absurd cc
 
 -- what ends plainly asks nothing
-pub plain_quiet : (w v : GameState) (i : Instr) (vs : List ℕ) (e : Ending) (n : Next) (text : Texts) → IsPlainEnd e → limited_next (finished w i vs e) ≡ Ok (v, n) → IsQuiet n text
+pub plain_quiet : (w v : GameState) (i : Instr) (vs : List ℕ) (e : Ending) (n : Next) (text : Texts)
+    → IsPlainEnd e → limited_next (finished w i vs e) ≡ Ok (v, n) → IsQuiet n text
 plain_quiet w v i vs e (At pc) text plain h = tt
-plain_quiet w v i vs e (Asks x) text plain h = absurd (subst IsPlainEnd (ends_as w i vs e v (Asks x) (next_is _ (v, Asks x) h)) plain)
+plain_quiet w v i vs e (Asks x) text plain h =
+    absurd (subst IsPlainEnd (ends_as w i vs e v (Asks x) (next_is _ (v, Asks x) h)) plain)
 
 none_shown : (on : Bool) → shown_if on [] ≡ []
 none_shown true = refl
@@ -71,6 +78,8 @@ none_left None Lower w = rw (none_shown w.streams.screen, none_shown _) refl
 none_left None Upper w = refl
 none_left (Some t) window w = refl
 
-pub all_shown : {S : Type 0} (shows : S → S → List ℕ → List ℕ → Type 0) (a b : S) (whole : Texts) (t : Option OpenTable) (window : Window) (w : GameState) (on : Bool) (rest : Rest) → on ≡ false → ShowsSome shows a b whole (rest_text_by t window w (rest_on w.memory on rest)) → ShowsSome shows a b whole no_text
+pub all_shown : {S : Type 0} (shows : S → S → List ℕ → List ℕ → Type 0) (a b : S) (whole : Texts)
+    (t : Option OpenTable) (window : Window) (w : GameState) (on : Bool) (rest : Rest) → on ≡ false
+    → ShowsSome shows a b whole (rest_text_by t window w (rest_on w.memory on rest)) → ShowsSome shows a b whole no_text
 all_shown {S} shows a b whole t window w true rest off h = absurd cc
 all_shown {S} shows a b whole t window w false rest off h = rw (none_left t window w) at h

@@ -1,5 +1,5 @@
 pub mod Arguments
-pub mod Buffers
+pub mod Behaviours
 pub mod Ends
 pub mod Filling
 pub mod FixedParts
@@ -15,8 +15,8 @@ pub mod Inside
 pub mod Keys
 pub mod Later
 pub mod Lines
-pub mod Behaviours
 pub mod OpenTables
+pub mod Opened
 pub mod Operands
 pub mod Plain
 pub mod Pushes
@@ -30,3 +30,4 @@ pub mod UpperRows
 pub mod Viewing
 pub mod Ways
 pub mod WithinBounds
+pub mod guards

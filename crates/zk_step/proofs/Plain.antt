@@ -4,7 +4,8 @@ use Rattle.zk_mem.specs.Map.{MemoryMap}
 use Rattle.zk_step.specs.declared.state.ending.Ending.{Ending}
 use Rattle.zk_step.specs.declared.state.ending.Ending.TheVariants.{GoOn, Jump, Call, Return, Throw, Restart, Asks}
 use Rattle.zk_step.specs.declared.state.ending.Output.{Output}
-use Rattle.zk_step.specs.declared.state.ending.Output.TheVariants.{Nothing, Code, Character, Number, Text, Line, Rows, Status}
+use Rattle.zk_step.specs.declared.state.ending.Output.TheVariants.{Nothing, Code, Character, Number, Text, Line, Rows}
+use Rattle.zk_step.specs.declared.state.ending.Output.TheVariants.{Status}
 use Rattle.zk_step.specs.Printing.{IsPlainEnd, IsReady, IsPrintable}
 
 pub plain_by : (e : Ending) → IsPlainEnd e → ((x : ℕ) → e ≡ Return x → ⊥) → e ≡ GoOn None None
@@ -18,7 +19,8 @@ plain_by (Throw x n) h other = absurd h
 plain_by Restart h other = absurd h
 plain_by (Asks request) h other = absurd h
 
-pub printable_parts : (before after : MemoryMap) (o : Output) (e : Ending) → IsPrintable before after o e → (o ≡ Nothing → ⊥) → (after ≡ before) × IsReady before o × IsPlainEnd e
+pub printable_parts : (before after : MemoryMap) (o : Output) (e : Ending) → IsPrintable before after o e
+    → (o ≡ Nothing → ⊥) → (after ≡ before) × IsReady before o × IsPlainEnd e
 printable_parts before after Nothing e h none = absurd (none refl)
 printable_parts before after (Code c) e h none = h
 printable_parts before after (Character c) e h none = h

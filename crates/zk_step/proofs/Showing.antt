@@ -11,7 +11,8 @@ use Rattle.zk_step.specs.declared.state.ending.Effect.{Effect}
 use Rattle.zk_step.specs.declared.state.ending.Next.{Next}
 use Rattle.zk_step.specs.declared.state.ending.Next.TheVariants.{At, Asks}
 use Rattle.zk_step.specs.declared.state.ending.Output.{Output}
-use Rattle.zk_step.specs.declared.state.ending.Output.TheVariants.{Nothing, Code, Character, Number, Text, Line, Rows, Status}
+use Rattle.zk_step.specs.declared.state.ending.Output.TheVariants.{Nothing, Code, Character, Number, Text, Line, Rows}
+use Rattle.zk_step.specs.declared.state.ending.Output.TheVariants.{Status}
 use Rattle.zk_step.specs.declared.state.game_state.GameState.{GameState}
 use Rattle.zk_step.specs.Finish.{finished}
 use Rattle.zk_step.specs.Instructions.{carried_out, HasBegun}
@@ -25,10 +26,12 @@ use Rattle.zk_step.proofs.Ends.{ends_as, prints_nothing}
 use Rattle.zk_step.proofs.WithinBounds.{next_is}
 
 -- an instruction that is not refused shows its texts
-pub told : (r : Result (GameState × (Next × Texts)) Refusal) (w : GameState) (n : Next) (t : Texts) → r ≡ Ok (w, (n, t)) → r ≡ Ok (w, (n, text_in r))
+pub told : (r : Result (GameState × (Next × Texts)) Refusal) (w : GameState) (n : Next) (t : Texts)
+    → r ≡ Ok (w, (n, t)) → r ≡ Ok (w, (n, text_in r))
 told r w n t h = let same : text_in r ≡ t = ap text_in h in rw same h
 
-pub shown_text : (r : Result (GameState × (Next × Texts)) Refusal) (w : GameState) (n : Next) (t : Texts) → r ≡ Ok (w, (n, t)) → text_in r ≡ t
+pub shown_text : (r : Result (GameState × (Next × Texts)) Refusal) (w : GameState) (n : Next) (t : Texts)
+    → r ≡ Ok (w, (n, t)) → text_in r ≡ t
 shown_text r w n t h = ap text_in h
 
 -- one that is refused shows nothing
@@ -36,7 +39,8 @@ pub refused_text : (r : Result (GameState × (Next × Texts)) Refusal) (e : Refu
 refused_text r e h = ap text_in h
 
 -- memory stands as the instruction found it, or nothing is printed
-pub printable_after : (before after : MemoryMap) (o : Output) (e : Ending) → IsPrintable before after o e → IsPrintable after after o e
+pub printable_after : (before after : MemoryMap) (o : Output) (e : Ending) → IsPrintable before after o e
+    → IsPrintable after after o e
 printable_after before after Nothing e h = tt
 printable_after before after (Code c) e h = (refl, tt, h.2)
 printable_after before after (Character c) e h = (refl, tt, h.2)
@@ -47,7 +51,8 @@ printable_after before after (Rows r) e h = (refl, rw h.0 h.1, h.2)
 printable_after before after Status e h = (refl, rw h.0 h.1, h.2)
 
 -- so its route is the same
-pub same_route : (before after : MemoryMap) (w : GameState) (o : Output) (e : Ending) → IsPrintable before after o e → routed before w o ≡ routed after w o
+pub same_route : (before after : MemoryMap) (w : GameState) (o : Output) (e : Ending)
+    → IsPrintable before after o e → routed before w o ≡ routed after w o
 unfolding routed
 same_route before after w Nothing e h = refl
 same_route before after w (Code c) e h = ap (λ (m : MemoryMap). routed m w (Code c)) (sym h.0)
@@ -59,15 +64,19 @@ same_route before after w (Rows r) e h = ap (λ (m : MemoryMap). routed m w (Row
 same_route before after w Status e h = ap (λ (m : MemoryMap). routed m w Status) (sym h.0)
 
 -- an instruction that has begun is refused as its route and its finish are
-pub stopped_there : (w : GameState) (i : Instr) (vs : List ℕ) (w2 : GameState) (e : Effect) (r : Refusal) → HasBegun w i w2 vs e → limited_next (finished_after (routed w.memory w2 e.output) i vs e.ending) ≡ Err r → limited_move (carried_out w i) ≡ Err r
+pub stopped_there : (w : GameState) (i : Instr) (vs : List ℕ) (w2 : GameState) (e : Effect) (r : Refusal)
+    → HasBegun w i w2 vs e → limited_next (finished_after (routed w.memory w2 e.output) i vs e.ending) ≡ Err r
+    → limited_move (carried_out w i) ≡ Err r
 stopped_there w i vs w2 e r begun h = go (routed w.memory w2 e.output) refl h
   where
-    go : (q : Result (GameState × Texts) Fault) → routed w.memory w2 e.output ≡ q → limited_next (finished_after q i vs e.ending) ≡ Err r → limited_move (carried_out w i) ≡ Err r
+    go : (q : Result (GameState × Texts) Fault) → routed w.memory w2 e.output ≡ q
+        → limited_next (finished_after q i vs e.ending) ≡ Err r → limited_move (carried_out w i) ≡ Err r
     go (Ok (w3, t)) is k = finish_refused w i vs w2 e w3 t r begun is k
     go (Err f) is k = let same : refusal.Fault f ≡ r = cc in route_refused w i vs w2 e f begun is ∙ ap Err same
 
 -- an instruction that is refused has shown nothing
-pub shown_nothing : {S : Type 0} (shows : S → S → List ℕ → List ℕ → Type 0) (t : Texts) (r : Result (GameState × Next) Refusal) (e : Refusal) (a b : S)
+pub shown_nothing : {S : Type 0} (shows : S → S → List ℕ → List ℕ → Type 0) (t : Texts)
+    (r : Result (GameState × Next) Refusal) (e : Refusal) (a b : S)
     → (t ≡ no_text) ⊎ IsOk r → r ≡ Err e → shows a b t.screen t.script → shows a b [] []
 shown_nothing {S} shows t r e a b (inl none) h k = rw none at k
 shown_nothing {S} shows t r e a b (inr ok) h k = let never = rw h at ok in absurd (search rules)
@@ -77,10 +86,16 @@ silent : (m : MemoryMap) (w : GameState) (o : Output) → o ≡ Nothing → text
 unfolding routed
 silent m w o h = rw h refl
 
-quiet_by : (m : MemoryMap) (w : GameState) (before after : MemoryMap) (e : Effect) (end : Ending) → e.ending ≡ end → (IsPlainEnd end → ⊥) → IsPrintable before after e.output e.ending → text_routed (routed m w e.output) ≡ no_text
-quiet_by m w before after e end is other ready = silent m w e.output (prints_nothing before after e.output e.ending (λ plain. other (subst IsPlainEnd is plain)) ready)
+quiet_by : (m : MemoryMap) (w : GameState) (before after : MemoryMap) (e : Effect) (end : Ending) → e.ending ≡ end
+    → (IsPlainEnd end → ⊥) → IsPrintable before after e.output e.ending → text_routed (routed m w e.output) ≡ no_text
+quiet_by m w before after e end is other ready =
+    silent m w e.output (prints_nothing before after e.output e.ending
+    (λ plain. other (subst IsPlainEnd is plain)) ready)
 
-pub quiet_asked : (w : GameState) (i : Instr) (vs : List ℕ) (e : Effect) (v : GameState) (n : Next) (found : MemoryMap) (u : GameState) (before after : MemoryMap) → IsPrintable before after e.output e.ending
+pub quiet_asked : (w : GameState) (i : Instr) (vs : List ℕ) (e : Effect) (v : GameState) (n : Next)
+    (found : MemoryMap) (u : GameState) (before after : MemoryMap) → IsPrintable before after e.output e.ending
     → limited_next (finished w i vs e.ending) ≡ Ok (v, n) → IsQuiet n (text_routed (routed found u e.output))
 quiet_asked w i vs e v (At pc) found u before after ready h = tt
-quiet_asked w i vs e v (Asks x) found u before after ready h = quiet_by found u before after e (ending.Asks x) (ends_as w i vs e.ending v (Asks x) (next_is _ (v, Asks x) h)) (λ plain. plain) ready
+quiet_asked w i vs e v (Asks x) found u before after ready h =
+    quiet_by found u before after e (ending.Asks x) (ends_as w i vs e.ending v (Asks x) (next_is _ (v, Asks x) h))
+    (λ plain. plain) ready

@@ -1,5 +1,6 @@
 -- The rows of the upper window and the status line, line by line.
-use Rattle.std.proofs.Common.{◌≡◌, ◌∙◌, ◌<◌, ℕ, zero, suc, ◌+◌, true, List, [], ◌∷◌, ◌++◌, length, take, get_or, refl, sym, ap, subst, arith, append_assoc, append-nil}
+use Rattle.std.proofs.Common.{◌≡◌, ◌∙◌, ◌<◌, ℕ, zero, suc, ◌+◌, true, List, [], ◌∷◌, ◌++◌, length, take, get_or, refl}
+use Rattle.std.proofs.Common.{sym, ap, subst, arith, append_assoc, append-nil}
 use Rattle.std.proofs.lemmas.List.{take_more}
 use Rattle.zk_term.specs.Windows.{Windows, row_text}
 use Rattle.zk_step.specs.declared.state.game_state.GameState.{GameState}
@@ -7,10 +8,13 @@ use Rattle.zk_step.specs.Routing.{on_screen, fresh_line, with_line_start}
 use Rattle.zk_step.specs.View.{rows_shown, lines_shown}
 
 -- one more character
-pub next_on_screen : {S : Type 0} (shows : S → S → List ℕ → List ℕ → Type 0) (twice : (a b c : S) (s t u v : List ℕ) → shows a b s u → shows b c t v → shows a c (s ++ t) (u ++ v))
-    (old now new : S) (cs : List ℕ) (i c : ℕ) → i < length cs → c ≡ get_or cs i c → shows old now (take i cs) [] → shows now new (c ∷ []) [] → shows old new (take (i + 1) cs) []
+pub next_on_screen : {S : Type 0} (shows : S → S → List ℕ → List ℕ → Type 0)
+    (twice : (a b c : S) (s t u v : List ℕ) → shows a b s u → shows b c t v → shows a c (s ++ t) (u ++ v))
+    (old now new : S) (cs : List ℕ) (i c : ℕ) → i < length cs → c ≡ get_or cs i c → shows old now (take i cs) []
+    → shows now new (c ∷ []) [] → shows old new (take (i + 1) cs) []
 next_on_screen {S} shows twice old now new cs i c lt is h one =
-    subst (λ (t : List ℕ). shows old new t []) (ap (λ (x : ℕ). take i cs ++ x ∷ []) is ∙ sym (take_more cs i c lt)) (twice old now new (take i cs) (c ∷ []) [] [] h one)
+    subst (λ (t : List ℕ). shows old new t []) (ap (λ (x : ℕ). take i cs ++ x ∷ []) is
+    ∙ sym (take_more cs i c lt)) (twice old now new (take i cs) (c ∷ []) [] [] h one)
 
 -- a row on a line
 abbrev pub row_line : Windows → ℕ → List ℕ
@@ -23,14 +27,17 @@ no_rows w row = refl
 -- a row more
 pub rows_more : (w : Windows) (n row : ℕ) → rows_shown w row (n + 1) ≡ rows_shown w row n ++ row_line w (row + n)
 unfolding rows_shown row_text
-rows_more w zero row = let one : zero + 1 ≡ suc zero = omega arith in let here : row + 0 ≡ row = omega arith in rw (one, here) (append-nil (row_line w row))
+rows_more w zero row = let one : zero + 1 ≡ suc zero = omega arith in let here : row + 0 ≡ row = omega arith in
+    rw (one, here) (append-nil (row_line w row))
 rows_more w (suc n) row =
     let one : suc n + 1 ≡ suc (n + 1) = omega arith in
     let there : row + suc n ≡ row + 1 + n = omega arith in
-    rw (one, there) (ap (λ (cs : List ℕ). row_line w row ++ cs) (rows_more w n (row + 1)) ∙ sym (append_assoc (row_line w row) (rows_shown w (row + 1) n) (row_line w (row + 1 + n))))
+    rw (one, there) (ap (λ (cs : List ℕ). row_line w row ++ cs) (rows_more w n (row + 1))
+    ∙ sym (append_assoc (row_line w row) (rows_shown w (row + 1) n) (row_line w (row + 1 + n))))
 
 -- lines that are shown
-pub some_lines : (w : GameState) (cs : List ℕ) → (cs ≡ [] → ⊥) → lines_shown w cs ≡ (with_line_start true w, on_screen (fresh_line w.at_line_start ++ cs))
+pub some_lines : (w : GameState) (cs : List ℕ) → (cs ≡ [] → ⊥)
+    → lines_shown w cs ≡ (with_line_start true w, on_screen (fresh_line w.at_line_start ++ cs))
 unfolding lines_shown
 some_lines w [] h = absurd (h refl)
 some_lines w (c ∷ cs) h = refl

@@ -1,5 +1,6 @@
 -- Instructions in the middle of what they print: what is still to come of it.
-use Rattle.std.specs.Prelude.{◌≡◌, ◌≤◌, ℕ, zero, suc, Bool, true, false, List, [], ◌∷◌, ◌++◌, drop, take, Option, Some, None, Ok, IsOk, ◌==◌, if◌then◌else◌}
+use Rattle.std.specs.Prelude.{◌≡◌, ◌≤◌, ℕ, zero, suc, Bool, true, false, List, [], ◌∷◌, ◌++◌, drop, take, Option, Some}
+use Rattle.std.specs.Prelude.{None, Ok, IsOk, ◌==◌, if◌then◌else◌}
 use Rattle.zk_mem.specs.Map.{MemoryMap}
 use Rattle.zk_code.specs.declared.instr.Instr.{Instr}
 use Rattle.zk_code.specs.declared.operands.Operand.{Operand}
@@ -30,7 +31,8 @@ use Rattle.zk_step.specs.Instructions.{carried_out}
 use Rattle.zk_step.specs.Limited.{limited_move, limited_next, text_in}
 use Rattle.zk_step.specs.Silence.{IsQuiet}
 use Rattle.zk_step.specs.Printing.{IsLong, IsPlainEnd, characters_of, rows_or_none, units_of, units_or_none}
-use Rattle.zk_step.specs.Routing.{Texts, ends_line, no_text, printed_if, rows_printed, script_is_on, shown_if, stored_all, upper_printed, with_line_start}
+use Rattle.zk_step.specs.Routing.{Texts, ends_line, no_text, printed_if, rows_printed, script_is_on, shown_if}
+use Rattle.zk_step.specs.Routing.{stored_all, upper_printed, with_line_start}
 use Rattle.zk_step.specs.Streams.{newest_of}
 use Rattle.zk_step.specs.Variables.{operands_read, with_frames}
 
@@ -77,7 +79,8 @@ rest_on m true rest = rest_units m rest
 rest_on m false rest = []
 
 -- a sink was given units, and others are still to come
-pub record GivesSome {S : Type 0} (gave : S → S → List text.Unit → Type 0) (a b : S) (whole rest : List text.Unit) : Type 0 where
+pub record GivesSome {S : Type 0} (gave : S → S → List text.Unit → Type 0) (a b : S)
+    (whole rest : List text.Unit) : Type 0 where
   pub units : List text.Unit
   pub gives : gave a b units
   pub is : whole ≡ units ++ rest
@@ -95,11 +98,13 @@ whole_of _ = None
 abbrev pub upper_rows : Bool → ExtraTable → ℕ → ℕ → List (List ℕ) → Windows → Windows
 upper_rows on t column (suc row) rows w = rows_printed on t column rows w
 upper_rows on t column zero [] w = w
-upper_rows on t column zero (row ∷ rows) w = rows_printed on t column rows (printed_if on (shown_all t (row_units row)) w)
+upper_rows on t column zero (row ∷ rows) w =
+    rows_printed on t column rows (printed_if on (shown_all t (row_units row)) w)
 
 -- the upper window gets what is still to come
 unfoldable pub upper_rest : Bool → MemoryMap → ℕ → Rest → Windows → Windows
-upper_rest on m column (Text place line) w = printed_if on (shown_all (own_characters m) (rest_units m (Text place line))) w
+upper_rest on m column (Text place line) w =
+    printed_if on (shown_all (own_characters m) (rest_units m (Text place line))) w
 upper_rest on m column (Rows r row) w = upper_rows on (own_characters m) column row (rest_rows m r row) w
 
 -- characters for the screen and the transcript, while they are on
@@ -116,7 +121,8 @@ abbrev pub rest_text : GameState → Rest → Texts
 rest_text w rest = rest_text_by (newest_of w.streams.tables) w.windows.selected w (rest_units w.memory rest)
 
 -- a screen and a transcript got the first characters of a text, and others are still to come
-pub record ShowsSome {S : Type 0} (shows : S → S → List ℕ → List ℕ → Type 0) (a b : S) (whole later : Texts) : Type 0 where
+pub record ShowsSome {S : Type 0} (shows : S → S → List ℕ → List ℕ → Type 0) (a b : S)
+    (whole later : Texts) : Type 0 where
   pub count : ℕ
   pub shown : shows a b (text_first count whole).screen (text_first count whole).script
   pub is : later ≡ text_later count whole
@@ -125,27 +131,32 @@ pub record ShowsSome {S : Type 0} (shows : S → S → List ℕ → List ℕ →
 
 -- What was shown so far and what is still to come make what the instruction prints: the codes for a table, ..
 abbrev pub IsForTable : GameState → List ℕ → Half → Type 0
-IsForTable w codes h = codes ++ stored_all (own_characters w.memory) (rest_units w.memory h.rest) ≡ stored_all (own_characters w.memory) (units_of w.memory h.effect.output)
+IsForTable w codes h = codes ++ stored_all (own_characters w.memory) (rest_units w.memory h.rest) ≡ stored_all
+    (own_characters w.memory) (units_of w.memory h.effect.output)
 
 -- .. a draft of the upper window, ..
 abbrev pub IsForUpper : GameState → Windows → Half → Type 0
-IsForUpper w draft h = upper_rest w.streams.screen w.memory w.windows.column h.rest draft ≡ upper_printed w.streams.screen w.memory h.effect.output w.windows
+IsForUpper w draft h = upper_rest w.streams.screen w.memory w.windows.column h.rest draft ≡ upper_printed
+    w.streams.screen w.memory h.effect.output w.windows
 
 -- .. and the last line of the screen
 abbrev pub IsForScreen : GameState → Half → Type 0
 IsForScreen w h =
-    ends_line h.at_line_start (shown_if w.streams.screen (shown_all (own_characters w.memory) (rest_units w.memory h.rest)))
+    ends_line h.at_line_start (shown_if w.streams.screen
+    (shown_all (own_characters w.memory) (rest_units w.memory h.rest)))
     ≡ ends_line w.at_line_start (shown_if w.streams.screen (characters_of w.memory h.effect.output))
 
 -- what is shown on the screen is shown once nothing can refuse the instruction any more
 abbrev pub IsOnWay : Option OpenTable → Window → GameState → Instr → List ℕ → List ℕ → Windows → Half → Type 0
 IsOnWay (Some t) window w i vs codes draft h = IsForTable w codes h
 IsOnWay None Upper w i vs codes draft h = IsForUpper w draft h
-IsOnWay None Lower w i vs codes draft h = IsForScreen w h × ((b : Bool) → IsOk (limited_next (finished (with_line_start b w) i vs h.effect.ending)))
+IsOnWay None Lower w i vs codes draft h =
+    IsForScreen w h × ((b : Bool) → IsOk (limited_next (finished (with_line_start b w) i vs h.effect.ending)))
 
 abbrev pub IsUnderWay : GameState → Instr → List ℕ → List ℕ → Windows → Half → Type 0
 IsUnderWay w i vs codes draft h =
-    IsRest w.memory h.rest × IsPlainEnd h.effect.ending × IsOnWay (newest_of w.streams.tables) w.windows.selected w i vs codes draft h
+    IsRest w.memory h.rest × IsPlainEnd h.effect.ending × IsOnWay (newest_of w.streams.tables) w.windows.selected
+    w i vs codes draft h
 
 -- the word of the evaluation stack that an operand has taken is given back
 abbrev pub given_back : Operand → ℕ → GameState → GameState
@@ -159,8 +170,8 @@ pub record HaveTaken (os : List Operand) (taken : GameState) (vs : List ℕ) : T
   pub bounded : IsBounded found.frames
   pub operands : operands_read found os ≡ Ok (taken, vs)
 
--- An instruction has taken its operands and has made its effect, which prints; a part of that was shown. The game state stands
--- as the instruction found it, and its operands can be taken again.
+-- An instruction has taken its operands and has made its effect, which prints; a part of that was shown. The game state
+-- stands as the instruction found it, and its operands can be taken again.
 pub record IsHalf (found : GameState) (i : Instr) (codes : List ℕ) (draft : Windows) (h : Half) : Type 0 where
   pub taken : GameState
   pub values : List ℕ
@@ -173,7 +184,8 @@ pub record IsHalf (found : GameState) (i : Instr) (codes : List ℕ) (draft : Wi
 
 -- it was finished, and leads on; or it is in the middle of what it prints, and the game state stands as it found it
 abbrev pub IsCarriedOn : GameState → GameState → Instr → List ℕ → Windows → Progress → Type 0
-IsCarriedOn found new i codes draft (Done n) = limited_move (carried_out found i) ≡ Ok (new, (n, text_in (limited_move (carried_out found i))))
+IsCarriedOn found new i codes draft (Done n) =
+    limited_move (carried_out found i) ≡ Ok (new, (n, text_in (limited_move (carried_out found i))))
 IsCarriedOn found new i codes draft (Part h) = (new ≡ found) × IsHalf found i codes draft h
 
 abbrev pub IsDone : Progress → Type 0

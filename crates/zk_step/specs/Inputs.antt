@@ -26,10 +26,11 @@ line_result version = if nat_lt version 5 then None else Some 13
 
 -- a read is answered by a line's codes: it is stored and divided into words, and the instruction is finished
 unfoldable pub line_answered : GameState → Instr → ℕ → ℕ → List ℕ → Result (GameState × ℕ) Fault
-line_answered w i text parse line = line_put w.memory text parse line >>= λ m. gone_on (with_memory w m) i (line_result m.version) None
+line_answered w i text parse line =
+    line_put w.memory text parse line >>= λ m. gone_on (with_memory w m) i (line_result m.version) None
 
--- an instruction is finished by a result and a truth, once these are known: where it stores the one, where it branches by
--- the other
+-- an instruction is finished by a result and a truth, once these are known: where it stores the one, where it branches
+-- by the other
 unfoldable pub result_answered : GameState → Instr → ℕ → Bool → Result (GameState × ℕ) Fault
 result_answered w i x truth = gone_on w i (Some x) (Some truth)
 

@@ -5,18 +5,11 @@ pub mod Comparison
 pub mod Control
 pub mod Effects
 pub mod Endings
-pub mod Examples
-pub mod InstructionExamples
-pub mod ObjectExamples
-pub mod PrintingExamples
-pub mod ReadingExamples
-pub mod RoutineExamples
 pub mod Restarts
 pub mod Finish
 pub mod Halves
 pub mod Resuming
 pub mod Saving
-pub mod SavingExamples
 pub mod Idle
 pub mod Inputs
 pub mod Instructions
@@ -41,4 +34,4 @@ pub mod Silence
 pub mod Status
 pub mod Tables
 pub mod Screens
-pub mod OutputExamples
+pub mod guards

@@ -1,4 +1,5 @@
--- A state that is back goes on at the address where it was saved (Standard, section 15, `save` and `restore_undo`; Quetzal
+-- A state that is back goes on at the address where it was saved (Standard, section 15, `save` and `restore_undo`;
+-- Quetzal
 -- 1.4, section 5).
 use Rattle.std.specs.Prelude.{ℕ, ◌+◌, true, Option, Some, None, Result, Ok, Err, nat_lt, if◌then◌else◌}
 use Rattle.zk_mem.specs.declared.fault.Fault.{Fault}
@@ -22,4 +23,5 @@ two_stored w pc None = Err BadTarget
 
 -- the address is that of the branch in version 3, and of the store byte from version 4 on
 unfoldable pub resumed : GameState → ℕ → Result (GameState × ℕ) Fault
-resumed w pc = if nat_lt w.memory.version 4 then branch_taken w (branch_here w.memory pc) else two_stored w pc (cell_at w.memory pc)
+resumed w pc = if nat_lt w.memory.version 4 then branch_taken w (branch_here w.memory pc) else two_stored w pc
+    (cell_at w.memory pc)

@@ -17,7 +17,8 @@ finished_after r i vs ending = r >>= λ x. finished x.0 i vs ending
 
 -- a route has led to a game state, and where it shows something, nothing can refuse the instruction any more
 abbrev pub IsRoutedBy : Result (GameState × Texts) Fault → GameState → Instr → List ℕ → Ending → Type 0
-IsRoutedBy r new i vs ending = (r ≡ Ok (new, text_routed r)) × ((text_routed r ≡ no_text) ⊎ IsOk (limited_next (finished new i vs ending)))
+IsRoutedBy r new i vs ending =
+    (r ≡ Ok (new, text_routed r)) × ((text_routed r ≡ no_text) ⊎ IsOk (limited_next (finished new i vs ending)))
 
 abbrev pub IsRouted : GameState → GameState → Instr → List ℕ → Effect → Type 0
 IsRouted old new i vs effect = IsRoutedBy (routed old.memory old effect.output) new i vs effect.ending

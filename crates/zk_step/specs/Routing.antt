@@ -1,5 +1,6 @@
 -- Where an instruction's text goes (Standard, sections 7.1 and 8.6).
-use Rattle.std.specs.Prelude.{Bool, true, false, ℕ, ◌+◌, List, [], ◌∷◌, ◌++◌, length, Option, Some, None, Result, Ok, Err, if◌then◌else◌, ◌==◌, ◌||◌, ◌%◌, is_some, unwrap_or}
+use Rattle.std.specs.Prelude.{Bool, true, false, ℕ, ◌+◌, List, [], ◌∷◌, ◌++◌, length, Option, Some, None, Result, Ok}
+use Rattle.std.specs.Prelude.{Err, if◌then◌else◌, ◌==◌, ◌||◌, ◌%◌, is_some, unwrap_or}
 use Rattle.zk_mem.specs.declared.fault.Fault.{Fault}
 use Rattle.zk_mem.specs.Map.{MemoryMap, byte_at}
 use Rattle.zk_mem.specs.Results.{◌>>=◌}
@@ -97,7 +98,8 @@ printed_if on cs w = if on then printed cs w else w
 -- further rows, each below the one before it and from the same column on
 unfoldable pub rows_printed : Bool → ExtraTable → ℕ → List (List ℕ) → Windows → Windows
 rows_printed on t column [] w = w
-rows_printed on t column (row ∷ rows) w = rows_printed on t column rows (printed_if on (shown_all t (row_units row)) (next_row column w))
+rows_printed on t column (row ∷ rows) w =
+    rows_printed on t column rows (printed_if on (shown_all t (row_units row)) (next_row column w))
 
 -- rows from the cursor on
 abbrev pub rectangle_printed : Bool → ExtraTable → List (List ℕ) → Windows → Windows
@@ -126,24 +128,37 @@ script_is_on m = is_bit_0_set (byte_at m flags_2)
 
 -- the screen and the transcript get characters while they are on
 abbrev pub streamed : MemoryMap → GameState → List ℕ → GameState × Texts
-streamed found w cs = (with_shown (shown_if w.streams.screen cs) w, record { screen = shown_if w.streams.screen cs; script = shown_if (script_is_on found) cs })
+streamed found w cs = (
+  with_shown (shown_if w.streams.screen cs) w,
+  record {
+    screen = shown_if w.streams.screen cs;
+    script = shown_if (script_is_on found) cs;
+  },
+)
 
 -- ---- the route of a text
 
 -- text of the lower window goes to the screen and the transcript, text of the upper one to its grid
 abbrev pub routed_to : Window → MemoryMap → GameState → Output → Result (GameState × Texts) Fault
 routed_to Lower found w output = Ok (streamed found w (characters_of found output))
-routed_to Upper found w output = Ok (record w { windows = upper_printed w.streams.screen found output w.windows }, no_text)
+routed_to Upper found w output =
+    Ok (record w { windows = upper_printed w.streams.screen found output w.windows }, no_text)
 
 -- while a table is open it alone gets the text
 abbrev pub routed_by : Option OpenTable → MemoryMap → GameState → Output → Result (GameState × Texts) Fault
 routed_by None found w output = routed_to w.windows.selected found w output
-routed_by (Some t) found w output = table_filled w t (stored_all (own_characters found) (units_of found output)) >>= λ w'. Ok (w', no_text)
+routed_by (Some t) found w output =
+    table_filled w t (stored_all (own_characters found) (units_of found output)) >>= λ w'. Ok (w', no_text)
 
 -- the status line stands on a line of its own
 abbrev pub status_shown : MemoryMap → GameState → Result (List text.Unit) Fault → Result (GameState × Texts) Fault
 status_shown found w (Err f) = Err f
-status_shown found w (Ok units) = Ok (with_line_start true w, on_screen (fresh_line w.at_line_start ++ shown_all (own_characters found) units ++ 10 ∷ []))
+status_shown found w (Ok units) =
+    Ok (
+      with_line_start true w,
+      on_screen (fresh_line w.at_line_start ++ shown_all (own_characters found) units
+          ++ 10 ∷ []),
+    )
 
 -- What is printed is read from memory as the instruction found it. The status line is no printed text: it goes to the
 -- screen whatever the streams and windows are.

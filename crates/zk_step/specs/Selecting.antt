@@ -1,5 +1,6 @@
 -- Output streams are selected and deselected (Standard, sections 7.1 and 15, `output_stream` and `input_stream`).
-use Rattle.std.specs.Prelude.{Bool, true, false, ℕ, ◌-◌, List, slice_get, Option, Some, None, Result, Ok, Err, ◌==◌, if◌then◌else◌, bit_and, bit_or}
+use Rattle.std.specs.Prelude.{Bool, true, false, ℕ, ◌-◌, List, slice_get, Option, Some, None, Result, Ok, Err, ◌==◌}
+use Rattle.std.specs.Prelude.{if◌then◌else◌, bit_and, bit_or}
 use Rattle.zk_mem.specs.declared.fault.Fault.{Fault}
 use Rattle.zk_mem.specs.declared.fault.Fault.TheVariants.{BadAddress}
 use Rattle.zk_mem.specs.Results.{◌>>=◌}
@@ -27,7 +28,8 @@ with_bit_0 false flags = bit_and flags 0b11111110
 
 -- the transcript is turned on or off
 abbrev pub transcript_set : Bool → GameState → Result GameState Fault
-transcript_set on w = byte_at w.memory flags_2 >>= λ flags. byte_put w.memory flags_2 (with_bit_0 on flags) >>= λ m. Ok (with_memory w m)
+transcript_set on w = byte_at w.memory flags_2 >>= λ flags. byte_put w.memory flags_2 (with_bit_0 on flags) >>=
+    λ m. Ok (with_memory w m)
 
 -- a table is opened, where its address is given
 abbrev pub table_opened : GameState → Option ℕ → Result GameState Fault
@@ -37,7 +39,8 @@ table_opened w (Some address) = opened w.streams address >>= λ s. Ok (with_stre
 -- the newest table is closed: its first word says how many codes it got (section 7.1.2.1)
 abbrev pub table_closed : GameState → Option OpenTable → Result GameState Fault
 table_closed w None = Ok w
-table_closed w (Some t) = word_put w.memory t.address t.count >>= λ m. Ok (with_streams (with_memory w m) (closed w.streams))
+table_closed w (Some t) =
+    word_put w.memory t.address t.count >>= λ m. Ok (with_streams (with_memory w m) (closed w.streams))
 
 -- a negative number in 16 bits
 abbrev pub minus : ℕ → ℕ

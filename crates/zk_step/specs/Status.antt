@@ -1,5 +1,6 @@
 -- The status line (Standard, section 8.2).
-use Rattle.std.specs.Prelude.{◌≡◌, IsOk, Bool, false, ℕ, ◌/◌, ◌%◌, List, [], ◌∷◌, ◌++◌, map, Option, Some, None, Result, Ok, Err, if◌then◌else◌, ◌==◌, nat_lt}
+use Rattle.std.specs.Prelude.{◌≡◌, IsOk, Bool, false, ℕ, ◌/◌, ◌%◌, List, [], ◌∷◌, ◌++◌, map, Option, Some, None, Result}
+use Rattle.std.specs.Prelude.{Ok, Err, if◌then◌else◌, ◌==◌, nat_lt}
 use Rattle.std.specs.Int.{cast_signed, w16}
 use Rattle.std.specs.Fmt.{decimal, signed_decimal}
 use Rattle.zk_mem.specs.declared.fault.Fault.{Fault}
@@ -57,4 +58,5 @@ status_units m = do
 -- the parts that a status line is made of
 pub record IsLineOf (m : MemoryMap) (s : StatusLine) : Type 0 where
   pub named_is : IsOk (named m s.name)
-  pub units_are : (units : List text.Unit) → named m s.name ≡ Ok units → status_units m ≡ Ok (line_units units s.is_time s.first s.second)
+  pub units_are : (units : List text.Unit) → named m s.name ≡ Ok units
+      → status_units m ≡ Ok (line_units units s.is_time s.first s.second)

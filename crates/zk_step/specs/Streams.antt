@@ -1,5 +1,6 @@
 -- The output streams (Standard, section 7.1).
-use Rattle.std.specs.Prelude.{◌≡◌, Bool, true, ℕ, ◌+◌, List, [], ◌∷◌, length, Option, Some, None, Result, Ok, Err, nat_le, if◌then◌else◌}
+use Rattle.std.specs.Prelude.{◌≡◌, Bool, true, ℕ, ◌+◌, List, [], ◌∷◌, length, Option, Some, None, Result, Ok, Err}
+use Rattle.std.specs.Prelude.{nat_le, if◌then◌else◌}
 use Rattle.zk_mem.specs.declared.fault.Fault.{Fault}
 use Rattle.zk_mem.specs.declared.fault.Fault.TheVariants.{StreamDepth}
 use Rattle.zk_step.specs.declared.output.streams.OpenTable.{OpenTable}
@@ -19,7 +20,8 @@ with_screen on s = record s { screen = on }
 
 -- a table is opened, up to 16 deep (section 7.1.2.1.1)
 unfoldable pub opened : OutputStreams → ℕ → Result OutputStreams Fault
-opened s address = if nat_le 16 (length s.tables) then Err StreamDepth else Ok (record s { tables = record { address = address; count = 0 } ∷ s.tables })
+opened s address = if nat_le 16 (length s.tables) then Err StreamDepth else Ok
+    (record s { tables = record { address = address; count = 0 } ∷ s.tables })
 
 -- tables of which the newest got so many codes more
 unfoldable pub counted : ℕ → List OpenTable → List OpenTable

@@ -1,6 +1,7 @@
 -- What a line of input leaves in a text buffer, and what its words leave in a parse buffer (Standard, section 15,
 -- `sread`, `aread` and `tokenise`).
-use Rattle.std.specs.Prelude.{ℕ, ◌+◌, ◌-◌, Bool, false, ◌&&◌, List, [], length, take, map, Result, Ok, nat_lt, nat_le, ◌==◌, if◌then◌else◌}
+use Rattle.std.specs.Prelude.{ℕ, ◌+◌, ◌-◌, Bool, false, ◌&&◌, List, [], length, take, map, Result, Ok, nat_lt, nat_le}
+use Rattle.std.specs.Prelude.{◌==◌, if◌then◌else◌}
 use Rattle.zk_mem.specs.declared.fault.Fault.{Fault}
 use Rattle.zk_mem.specs.Header.{header_of}
 use Rattle.zk_mem.specs.Map.{MemoryMap, byte_at, byte_put}
@@ -25,7 +26,8 @@ early_line_put m text line = byte_at m text >>= λ size. ended_by_zero m (text +
 
 -- letters are stored after those that are there, and then in byte 1 how many they are
 abbrev pub counted_letters : MemoryMap → ℕ → ℕ → List ℕ → Result MemoryMap Fault
-counted_letters m text count letters = bytes_put m (text + 2 + count) letters >>= λ n. byte_put n (text + 1) (count + length letters)
+counted_letters m text count letters =
+    bytes_put m (text + 2 + count) letters >>= λ n. byte_put n (text + 1) (count + length letters)
 
 -- a text buffer is filled by the letters that it has
 abbrev pub is_filled : ℕ → ℕ → Bool
@@ -41,7 +43,8 @@ later_line_put m text line = do
 
 -- the text in a text buffer is divided into words by the dictionary at an address
 unfoldable pub divided : MemoryMap → ℕ → ℕ → ℕ → Bool → Result MemoryMap Fault
-divided m text parse dictionary leaves_unknown = dictionary_at m dictionary >>= λ d. tokenised m text parse d leaves_unknown
+divided m text parse dictionary leaves_unknown =
+    dictionary_at m dictionary >>= λ d. tokenised m text parse d leaves_unknown
 
 -- the address of the story's own dictionary (section 13.1)
 abbrev pub own_dictionary : MemoryMap → ℕ
@@ -52,7 +55,8 @@ unfoldable pub line_put : MemoryMap → ℕ → ℕ → List ℕ → Result Memo
 line_put m text parse line =
     if nat_lt m.version 5
     then (early_line_put m text line >>= λ n. divided n text parse (own_dictionary n) false)
-    else (later_line_put m text line >>= λ n. if parse == 0 then Ok n else divided n text parse (own_dictionary n) false)
+    else (later_line_put m text line >>= λ n. if parse == 0 then Ok n else divided n text parse
+    (own_dictionary n) false)
 
 -- ---- what is kept of a line
 

@@ -1,4 +1,5 @@
--- What is shown of the status line and the upper window before a read, on a screen of plain lines (Standard, section 8).
+-- What is shown of the status line and the upper window before a read, on a screen of plain lines (Standard, section
+-- 8).
 use Rattle.std.specs.Prelude.{true, ℕ, zero, suc, ◌+◌, List, [], ◌∷◌, ◌++◌, Result, Ok, ◌==◌, if◌then◌else◌}
 use Rattle.zk_mem.specs.declared.fault.Fault.{Fault}
 use Rattle.zk_mem.specs.Map.{MemoryMap}
@@ -19,7 +20,8 @@ rows_shown w row (suc n) = (124 ∷ 32 ∷ row_text w row ++ 10 ∷ []) ++ rows_
 
 -- the line of the status, which version 3 has alone
 abbrev pub status_shown : MemoryMap → Result (List ℕ) Fault
-status_shown m = if m.version == 3 then (status_units m >>= λ units. Ok (shown_all (own_characters m) units ++ 10 ∷ [])) else Ok []
+status_shown m =
+    if m.version == 3 then (status_units m >>= λ units. Ok (shown_all (own_characters m) units ++ 10 ∷ [])) else Ok []
 
 -- lines on the screen, where there are some, after a new line unless the last character was one
 unfoldable pub lines_shown : GameState → List ℕ → GameState × Texts
@@ -29,7 +31,8 @@ lines_shown w (c ∷ cs) = (with_line_start true w, on_screen (fresh_line w.at_l
 -- the status line and the rows of the upper window, by the view
 abbrev pub viewed_by : View → GameState → Result (GameState × Texts) Fault
 viewed_by Plain w = Ok (w, no_text)
-viewed_by Upper w = status_shown w.memory >>= λ status. Ok (lines_shown w (status ++ rows_shown w.windows 1 w.windows.height))
+viewed_by Upper w =
+    status_shown w.memory >>= λ status. Ok (lines_shown w (status ++ rows_shown w.windows 1 w.windows.height))
 
 unfoldable pub viewed : GameState → Result (GameState × Texts) Fault
 viewed w = viewed_by w.view w

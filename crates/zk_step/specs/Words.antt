@@ -19,4 +19,5 @@ dictionary_or_own m dictionary = if dictionary == 0 then own_dictionary m else d
 -- key of so many letters, from one on, was stored
 unfoldable pub words_changed : Words → MemoryMap → List ℕ → Result MemoryMap Fault
 words_changed Tokenise m vs = divided m (first vs) (second vs) (dictionary_or_own m (third vs)) (not (fourth vs == 0))
-words_changed EncodeText m vs = letters_counted m (first vs + third vs) (second vs) >>= λ letters. bytes_put m (fourth vs) (key_of m letters)
+words_changed EncodeText m vs =
+    letters_counted m (first vs + third vs) (second vs) >>= λ letters. bytes_put m (fourth vs) (key_of m letters)

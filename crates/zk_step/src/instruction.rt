@@ -1,11 +1,13 @@
 // An instruction, from its operands to the next address.
 
 ghost use Rattle.zk_state.specs.Frames.{IsBounded, bounds_of};
-ghost use Rattle.std.specs.Prelude.{◌≡◌, ◌≤◌, ◌^◌, [], Bool, None, Ok, Err, IfOk, IfErr, IfSome, IsOk, OnOk, MatchResult};
+ghost use Rattle.std.specs.Prelude.{◌≡◌, ◌≤◌, ◌^◌, [], Bool, None, Ok, Err, IfOk, IfErr, IfSome, IsOk, OnOk};
+ghost use Rattle.std.specs.Prelude.{MatchResult};
 ghost use Rattle.zk_step.specs.declared.state.game_state.GameState.{GameState};
 ghost use Rattle.zk_step.specs.Effects.{effect_of};
 ghost use Rattle.zk_step.specs.Finish.{finished};
-ghost use Rattle.zk_step.specs.Halves.{HaveTaken, IsCarriedOn, IsDone, IsHalf, IsQuietAs, IsUnderWay, ShowsSome, rest_text, text_due, text_then};
+ghost use Rattle.zk_step.specs.Halves.{HaveTaken, IsCarriedOn, IsDone, IsHalf, IsQuietAs, IsUnderWay, ShowsSome};
+ghost use Rattle.zk_step.specs.Halves.{rest_text, text_due, text_then};
 ghost use Rattle.zk_step.specs.Instructions.{carried_out, HasBegun};
 ghost use Rattle.zk_step.specs.Limited.{limited_next, limited_move, text_in};
 ghost use Rattle.zk_step.specs.Printing.{IsLong, IsPlainEnd, IsPrintable};

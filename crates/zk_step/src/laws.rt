@@ -1,6 +1,7 @@
 // Laws of instructions.
 
-ghost use Rattle.zk_step.specs.Laws.{BoundsAreNotSeen, AnswersSeeNoBounds, StoriesStay, AnswersLeaveStories, EffectsEnd, EffectsStay, LinesChangeTextBuffers};
+ghost use Rattle.zk_step.specs.Laws.{BoundsAreNotSeen, AnswersSeeNoBounds, StoriesStay, AnswersLeaveStories};
+ghost use Rattle.zk_step.specs.Laws.{EffectsEnd, EffectsStay, LinesChangeTextBuffers};
 
 /// Bounds on frames and words change nothing of what an instruction does: in a game state with other bounds
 /// it leads to the same game state, with those bounds, to the same address, and shows the same.

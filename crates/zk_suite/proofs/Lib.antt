@@ -1,4 +1,5 @@
 pub mod Differing
-pub mod LineCuts
 pub mod Findings
+pub mod LineCuts
 pub mod ScriptLines
+pub mod guards

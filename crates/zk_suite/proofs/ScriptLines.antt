@@ -1,15 +1,19 @@
 -- The lines of a walkthrough, one after the other.
 use Rattle.std.specs.Prelude.{option_to_list, is_none, option_map, cond}
 use Rattle.std.specs.List.{cons_option, filter_map}
-use Rattle.std.proofs.Common.{◌≡◌, ℕ, ◌+◌, ◌≤◌, Bool, true, false, List, [], ◌∷◌, ◌++◌, length, Option, Some, None, refl, sym, arith, append_assoc, append-nil}
+use Rattle.std.proofs.Common.{◌≡◌, ℕ, ◌+◌, ◌≤◌, Bool, true, false, List, [], ◌∷◌, ◌++◌, length, Option, Some, None}
+use Rattle.std.proofs.Common.{refl, sym, arith, append_assoc, append-nil}
 use Rattle.std.specs.Str.{bytes_eq}
-use Rattle.zk_suite.specs.Scripts.{Asked, asked_at, is_comment, is_command, command_count, comments, script, typed, checks_after, setting_in, first_of}
+use Rattle.zk_suite.specs.Scripts.{Asked, asked_at, is_comment, is_command, command_count, comments, script, typed}
+use Rattle.zk_suite.specs.Scripts.{checks_after, setting_in, first_of}
 
-pub comment_on : (ls rest : List (List ℕ)) (l : List ℕ) → ls ≡ l ∷ rest → true ≡ is_comment l → (script ls ≡ script rest) × (length (comments ls) ≡ 1 + length (comments rest))
+pub comment_on : (ls rest : List (List ℕ)) (l : List ℕ) → ls ≡ l ∷ rest → true ≡ is_comment l
+    → (script ls ≡ script rest) × (length (comments ls) ≡ 1 + length (comments rest))
 unfolding script comments
 comment_on ls rest l e h = rw (e, sym h) (refl, omega arith)
 
-pub comment_stops : (ls rest : List (List ℕ)) (l : List ℕ) → ls ≡ l ∷ rest → false ≡ is_comment l → (script ls ≡ ls) × (length (comments ls) ≡ 0)
+pub comment_stops : (ls rest : List (List ℕ)) (l : List ℕ) → ls ≡ l ∷ rest → false ≡ is_comment l
+    → (script ls ≡ ls) × (length (comments ls) ≡ 0)
 unfolding script comments
 comment_stops ls rest l e h = rw (e, sym h) (refl, refl)
 
@@ -26,13 +30,15 @@ typed_by false l ls e = rw e refl
 pub typed_on : (l : List ℕ) (ls : List (List ℕ)) → typed (l ∷ ls) ≡ typed (l ∷ []) ++ typed ls
 typed_on l ls = typed_by (is_command l) l ls refl
 
-pub option_before : {X : Type 0} (o : Option X) (xs ys : List X) → (xs ++ option_to_list o) ++ ys ≡ xs ++ cons_option o ys
+pub option_before : {X : Type 0} (o : Option X) (xs ys : List X) → (xs ++ option_to_list o) ++ ys ≡ xs
+    ++ cons_option o ys
 option_before {X} None xs ys = rw (append-nil xs) refl
 option_before {X} (Some x) xs ys = append_assoc xs (x ∷ []) ys
 
 -- what a line asks comes before what those after it ask
 pub checks_on : (c n : ℕ) (l : List ℕ) (ls : List (List ℕ)) (before : List Asked)
-    → (before ++ option_to_list (asked_at c (n + 1) l)) ++ checks_after (c + command_count l) (n + 1) ls ≡ before ++ checks_after c n (l ∷ ls)
+    → (before ++ option_to_list (asked_at c (n + 1) l)) ++ checks_after (c + command_count l) (n + 1) ls ≡ before
+    ++ checks_after c n (l ∷ ls)
 unfolding checks_after
 checks_on c n l ls before = option_before (asked_at c (n + 1) l) before (checks_after (c + command_count l) (n + 1) ls)
 
@@ -67,7 +73,8 @@ count_small l = one_by (is_command l)
 
 -- ---- settings
 
-pub comments_on : (ls rest : List (List ℕ)) (l : List ℕ) → ls ≡ l ∷ rest → true ≡ is_comment l → comments ls ≡ l ∷ comments rest
+pub comments_on : (ls rest : List (List ℕ)) (l : List ℕ) → ls ≡ l ∷ rest → true ≡ is_comment l
+    → comments ls ≡ l ∷ comments rest
 unfolding comments
 comments_on ls rest l e h = rw (e, sym h) refl
 
@@ -85,25 +92,29 @@ settings_end xs cs e = rw e (sym (append-nil xs))
 pub setting_nowhere : (name : List ℕ) (cs : List (List ℕ)) → cs ≡ [] → None ≡ first_of name (filter_map setting_in cs)
 setting_nowhere name cs e = rw e refl
 
-found_by : (b : Bool) (name v : List ℕ) (s : List ℕ × List ℕ) (ys : List (List ℕ × List ℕ)) → bytes_eq s.0 name ≡ b → Some v ≡ first_of name (s ∷ []) → Some v ≡ first_of name (s ∷ ys)
+found_by : (b : Bool) (name v : List ℕ) (s : List ℕ × List ℕ) (ys : List (List ℕ × List ℕ))
+    → bytes_eq s.0 name ≡ b → Some v ≡ first_of name (s ∷ []) → Some v ≡ first_of name (s ∷ ys)
 found_by true name v s ys e h = rw e (rw e at h)
 found_by false name v s ys e h =
     let none : Some v ≡ None = rw e at h in
     absurd cc
 
 -- a setting of the name is the first one
-pub setting_found : (name v : List ℕ) (o : Option (List ℕ × List ℕ)) (ys : List (List ℕ × List ℕ)) → Some v ≡ first_of name (option_to_list o) → Some v ≡ first_of name (cons_option o ys)
+pub setting_found : (name v : List ℕ) (o : Option (List ℕ × List ℕ)) (ys : List (List ℕ × List ℕ))
+    → Some v ≡ first_of name (option_to_list o) → Some v ≡ first_of name (cons_option o ys)
 setting_found name v None ys h = absurd cc
 setting_found name v (Some s) ys h = found_by (bytes_eq s.0 name) name v s ys refl h
 
-passed_by : (b : Bool) (name : List ℕ) (s : List ℕ × List ℕ) (ys : List (List ℕ × List ℕ)) → bytes_eq s.0 name ≡ b → None ≡ first_of name (s ∷ []) → first_of name (s ∷ ys) ≡ first_of name ys
+passed_by : (b : Bool) (name : List ℕ) (s : List ℕ × List ℕ) (ys : List (List ℕ × List ℕ)) → bytes_eq s.0 name ≡ b
+    → None ≡ first_of name (s ∷ []) → first_of name (s ∷ ys) ≡ first_of name ys
 passed_by true name s ys e h =
     let some : None ≡ Some s.1 = rw e at h in
     absurd cc
 passed_by false name s ys e h = rw e refl
 
 -- one of another name, or none, is passed
-pub setting_passed : (name : List ℕ) (o : Option (List ℕ × List ℕ)) (ys : List (List ℕ × List ℕ)) → None ≡ first_of name (option_to_list o) → first_of name (cons_option o ys) ≡ first_of name ys
+pub setting_passed : (name : List ℕ) (o : Option (List ℕ × List ℕ)) (ys : List (List ℕ × List ℕ))
+    → None ≡ first_of name (option_to_list o) → first_of name (cons_option o ys) ≡ first_of name ys
 setting_passed name None ys h = refl
 setting_passed name (Some s) ys h = passed_by (bytes_eq s.0 name) name s ys refl h
 

@@ -1,4 +1,4 @@
 pub mod Scripts
 pub mod Texts
 pub mod Seen
-pub mod Examples
+pub mod guards

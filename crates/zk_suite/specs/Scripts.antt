@@ -1,5 +1,6 @@
 -- Walkthroughs: comments, and after them commands and what is asked of their answers.
-use Rattle.std.specs.Prelude.{ℕ, ◌+◌, ◌-◌, ◌==◌, ◌&&◌, ◌||◌, Bool, true, false, List, [], ◌∷◌, ◌++◌, length, take, drop, filter, codes, nat_lt, is_none, option_map, if◌then◌else◌, Option, Some, None}
+use Rattle.std.specs.Prelude.{ℕ, ◌+◌, ◌-◌, ◌==◌, ◌&&◌, ◌||◌, Bool, true, false, List, [], ◌∷◌, ◌++◌, length, take, drop}
+use Rattle.std.specs.Prelude.{filter, codes, nat_lt, is_none, option_map, if◌then◌else◌, Option, Some, None}
 use Rattle.std.specs.List.{filter_map, find, flat_map, cons_option, prefix_len, suffix_len, starts_with}
 use Rattle.std.specs.Char.{is_ascii_alphanumeric}
 use Rattle.std.specs.Str.{bytes_eq}
@@ -38,8 +39,8 @@ without_front bytes = drop (prefix_len is_space bytes) bytes
 abbrev pub without_back : List ℕ → List ℕ
 without_back bytes = take (length bytes - suffix_len is_space bytes) bytes
 
--- the key and the value of a setting, where a comment is one: after the number sign and a space come a key, a colon, a space
--- and the value; spaces before and after the value are dropped
+-- the key and the value of a setting, where a comment is one: after the number sign and a space come a key, a colon, a
+-- space and the value; spaces before and after the value are dropped
 unfoldable pub setting_in : List ℕ → Option (List ℕ × List ℕ)
 setting_in line =
     let text = drop 2 line in
@@ -86,7 +87,8 @@ pub record Asked : Type 0 where
 
 -- what a line asks, where it asks something
 abbrev pub asked_at : ℕ → ℕ → List ℕ → Option Asked
-asked_at commands line l = option_map (λ a. record { commands = commands; line = line; wanted = a.0; text = a.1 }) (asked l)
+asked_at commands line l =
+    option_map (λ a. record { commands = commands; line = line; wanted = a.0; text = a.1 }) (asked l)
 
 -- how many commands a line is
 abbrev pub command_count : List ℕ → ℕ
@@ -95,7 +97,8 @@ command_count line = if is_command line then 1 else 0
 -- what lines ask, after so many commands and so many lines
 unfoldable pub checks_after : ℕ → ℕ → List (List ℕ) → List Asked
 checks_after commands line [] = []
-checks_after commands line (l ∷ ls) = cons_option (asked_at commands (line + 1) l) (checks_after (commands + command_count l) (line + 1) ls)
+checks_after commands line (l ∷ ls) =
+    cons_option (asked_at commands (line + 1) l) (checks_after (commands + command_count l) (line + 1) ls)
 
 -- what a walkthrough asks; its lines are numbered from 1, comments too
 abbrev pub checks_of : List ℕ → List Asked

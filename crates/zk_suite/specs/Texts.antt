@@ -5,8 +5,8 @@ use Rattle.std.specs.Prelude.{◌≡◌, ◌≢◌, ℕ, ◌-◌, ◌≤◌, Lis
 abbrev pub Occurs : List ℕ → List ℕ → Type 0
 Occurs text bytes = (front : List ℕ) × ((back : List ℕ) × (bytes ≡ front ++ text ++ back))
 
--- two lists of lines are the same before the line of a number, counted from 1, and there they differ, or one of them has
--- ended
+-- two lists of lines are the same before the line of a number, counted from 1, and there they differ, or one of them
+-- has ended
 pub record DifferFirstAt (wanted played : List (List ℕ)) (number : ℕ) : Type 0 where
   pub counted : 1 ≤ number
   pub same : take (number - 1) wanted ≡ take (number - 1) played

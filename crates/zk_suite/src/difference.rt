@@ -13,8 +13,9 @@ const LINES_BEFORE: usize = 3;
 /// How many lines of each text are shown from a difference on.
 const LINES_BEHIND: usize = 4;
 
-/// The first line in which two texts differ, from 1, if they do: one that is not the same, or that stands in one of them
-/// alone. The last line may have a new line after it or not, and a carriage return before a new line is no part of a line.
+/// The first line in which two texts differ, from 1, if they do: one that is not the same, or that stands in one of
+/// them alone. The last line may have a new line after it or not, and a carriage return before a new line is no part of
+/// a line.
 pub fn first_difference(wanted: &[u8], played: &[u8]) -> Option<usize>
     ensures none { IfNone result (lines wanted.now ≡ lines played.now) }
     ensures some { IfSome result (λ n. DifferFirstAt (lines wanted.now) (lines played.now) n) }
@@ -39,9 +40,9 @@ pub fn first_difference(wanted: &[u8], played: &[u8]) -> Option<usize>
     }
 }
 
-/// The lines around the first difference of two texts, as `diff -u` shows them: up to three lines that are the same, with
-/// a space before each, up to four of the wanted text with `-`, and up to four of the played one with `+`. Bytes that are
-/// no UTF-8 and control characters are shown as `?`.
+/// The lines around the first difference of two texts, as `diff -u` shows them: up to three lines that are the same,
+/// with a space before each, up to four of the wanted text with `-`, and up to four of the played one with `+`. Bytes
+/// that are no UTF-8 and control characters are shown as `?`.
 #[derive(Clone, Copy, Drop)]
 pub struct Difference<'a> {
     wanted: &'a [u8],

@@ -1,8 +1,10 @@
 // Walkthroughs.
 
-ghost use Rattle.std.specs.Prelude.{◌≡◌, ◌<◌, ◌≤◌, ◌+◌, ◌^◌, ◌++◌, [], ◌∷◌, length, map, option_map, option_to_list, IfOk, OnOk};
+ghost use Rattle.std.specs.Prelude.{◌≡◌, ◌<◌, ◌≤◌, ◌+◌, ◌^◌, ◌++◌, [], ◌∷◌, length, map, option_map, option_to_list};
+ghost use Rattle.std.specs.Prelude.{IfOk, OnOk};
 ghost use Rattle.std.specs.Str.Lines.{lines};
-ghost use Rattle.zk_suite.specs.Scripts.{asked_at, checks_of, command_count, commands_of, comments, first_of, script, setting_in, settings_of, typed};
+ghost use Rattle.zk_suite.specs.Scripts.{asked_at, checks_of, command_count, commands_of, comments, first_of, script};
+ghost use Rattle.zk_suite.specs.Scripts.{setting_in, settings_of, typed};
 ghost use Rattle.zk_suite.specs.Seen.{check_seen};
 
 use crate::kinds::{asked, is_comment};
@@ -54,14 +56,15 @@ pub struct Check<'a> {
     pub text: &'a [u8],
 }
 
-/// A walkthrough, line by line. A line ends at a new line or at the end of the file; a carriage return before its new line
-/// is no part of it.
+/// A walkthrough, line by line. A line ends at a new line or at the end of the file; a carriage return before its new
+/// line is no part of it.
 ///
-/// The lines that it begins with are comments, as long as they are `#` alone or begin with `# `. A comment `# key: value`
-/// is a setting: the key has letters, digits and hyphens alone, and spaces before and after the value are dropped.
+/// The lines that it begins with are comments, as long as they are `#` alone or begin with `# `. A comment `# key:
+/// value` is a setting: the key has letters, digits and hyphens alone, and spaces before and after the value are
+/// dropped.
 ///
-/// Each line after the comments is `! text`, which asks that the answer to the command before it has the text; `!~ text`,
-/// which asks that it has not; or else a command.
+/// Each line after the comments is `! text`, which asks that the answer to the command before it has the text; `!~
+/// text`, which asks that it has not; or else a command.
 #[derive(Clone, Copy, Drop)]
 pub struct Walkthrough<'a> {
     /// The bytes of its file.
@@ -163,7 +166,8 @@ impl<'a> Walkthrough<'a> {
         Ok(settings)
     }
 
-    /// The commands, each with a new line after it: what is typed in the play. `AllocError` where there is no memory for it.
+    /// The commands, each with a new line after it: what is typed in the play. `AllocError` where there is no memory
+    /// for it.
     pub fn commands(&self, alloc: Global) -> Result<Vec<u8>, AllocError>
         ensures { IfOk result (λ v. v.items ≡ commands_of self.now.bytes.now) }
     {

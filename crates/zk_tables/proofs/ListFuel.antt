@@ -1,5 +1,6 @@
 -- A list as its first property and the rest: so many properties as data has addresses are never used up.
-use Rattle.std.proofs.Common.{◌≡◌, ℕ, zero, suc, ◌+◌, ◌<◌, ◌≤◌, Bool, true, false, cond, Option, Some, None, Result, Ok, Err, refl, arith, ap, ◌∙◌, eqb, inl, inr, nat_lt}
+use Rattle.std.proofs.Common.{◌≡◌, ℕ, zero, suc, ◌+◌, ◌<◌, ◌≤◌, Bool, true, false, cond, Option, Some, None, Result, Ok}
+use Rattle.std.proofs.Common.{Err, refl, arith, ap, ◌∙◌, eqb, inl, inr, nat_lt}
 use Rattle.std.proofs.lemmas.Bool.{ltb-true}
 use Rattle.std.proofs.lemmas.Bool.Decides.{nat_tests}
 use Rattle.zk_mem.specs.declared.fault.Fault.{Fault}
@@ -41,27 +42,35 @@ property_behind : (m : MemoryMap) (a : ℕ) → readable_end m ≤ a → propert
 unfolding property_at list_byte
 property_behind m a h = let t : nat_lt a (readable_end m) ≡ false = grind (arith, nat_tests) in rw t refl
 
-same_rest : (m : MemoryMap) (j k a : ℕ) (r : Result (Option Property) Fault) → property_at m a ≡ r → ((b : ℕ) → a < b → properties_from m j b ≡ properties_from m k b) → (r >>= λ p. with_rest p (λ b. properties_from m j b)) ≡ (r >>= λ p. with_rest p (λ b. properties_from m k b))
+same_rest : (m : MemoryMap) (j k a : ℕ) (r : Result (Option Property) Fault) → property_at m a ≡ r
+    → ((b : ℕ) → a < b → properties_from m j b ≡ properties_from m k b)
+    → (r >>= λ p. with_rest p (λ b. properties_from m j b)) ≡ (r >>= λ p. with_rest p (λ b. properties_from m k b))
 same_rest m j k a (Err e) h rest = refl
 same_rest m j k a (Ok None) h rest = refl
 same_rest m j k a (Ok (Some p)) h rest = rw (rest (p.address + p.length) (property_onward m a p h)) refl
 
 -- enough is enough
-same_list : (m : MemoryMap) (j k a : ℕ) → readable_end m ≤ a + j → readable_end m ≤ a + k → properties_from m j a ≡ properties_from m k a
+same_list : (m : MemoryMap) (j k a : ℕ) → readable_end m ≤ a + j → readable_end m ≤ a + k
+    → properties_from m j a ≡ properties_from m k a
 unfolding properties_from
 same_list m zero zero a enough plenty = refl
 same_list m zero (suc k) a enough plenty = rw (property_behind m a (omega arith)) refl
 same_list m (suc j) zero a enough plenty = rw (property_behind m a (omega arith)) refl
-same_list m (suc j) (suc k) a enough plenty = same_rest m j k a (property_at m a) refl (λ b onward. same_list m j k b (omega arith) (omega arith))
+same_list m (suc j) (suc k) a enough plenty =
+    same_rest m j k a (property_at m a) refl (λ b onward. same_list m j k b (omega arith) (omega arith))
 
-one_more : (m : MemoryMap) (n a : ℕ) → readable_end m ≤ n → properties_from m n a ≡ (property_at m a >>= λ p. with_rest p (λ b. properties_from m n b))
+one_more : (m : MemoryMap) (n a : ℕ) → readable_end m ≤ n
+    → properties_from m n a ≡ (property_at m a >>= λ p. with_rest p (λ b. properties_from m n b))
 unfolding properties_from
 one_more m n a enough = same_list m n (suc n) a (omega arith) (omega arith)
 
 -- the first property, and the list after it
-pub list_unrolled : (m : MemoryMap) (a : ℕ) → properties_at m a ≡ (property_at m a >>= λ p. with_rest p (λ b. properties_at m b))
+pub list_unrolled : (m : MemoryMap) (a : ℕ)
+    → properties_at m a ≡ (property_at m a >>= λ p. with_rest p (λ b. properties_at m b))
 unfolding properties_at
 list_unrolled m a = one_more m (readable_end m) a (omega arith)
 
-pub list_read_as : (m : MemoryMap) (a : ℕ) (r : Result (Option Property) Fault) → property_at m a ≡ r → properties_at m a ≡ (r >>= λ p. with_rest p (λ b. properties_at m b))
-list_read_as m a r h = list_unrolled m a ∙ ap (λ (x : Result (Option Property) Fault). x >>= λ p. with_rest p (λ b. properties_at m b)) h
+pub list_read_as : (m : MemoryMap) (a : ℕ) (r : Result (Option Property) Fault) → property_at m a ≡ r
+    → properties_at m a ≡ (r >>= λ p. with_rest p (λ b. properties_at m b))
+list_read_as m a r h =
+    list_unrolled m a ∙ ap (λ (x : Result (Option Property) Fault). x >>= λ p. with_rest p (λ b. properties_at m b)) h

@@ -1,5 +1,7 @@
 -- Property lists: what is read is what the bytes spell.
-use Rattle.std.proofs.Common.{◌≡◌, ◌≢◌, ℕ, zero, suc, ◌+◌, ◌*◌, ◌-◌, ◌/◌, ◌%◌, ◌<◌, ◌≤◌, true, false, List, [], ◌∷◌, length, Option, Some, None, Result, Ok, Err, refl, ap, sym, ◌∙◌, arith, eqb, inl, inr, ◌⊎◌, nat_lt}
+use Rattle.std.proofs.Common.{◌≡◌, ◌≢◌, ℕ, zero, suc, ◌+◌, ◌*◌, ◌-◌, ◌/◌, ◌%◌, ◌<◌, ◌≤◌, true, false, List, [], ◌∷◌}
+use Rattle.std.proofs.Common.{length, Option, Some, None, Result, Ok, Err, refl, ap, sym, ◌∙◌, arith, eqb, inl, inr}
+use Rattle.std.proofs.Common.{◌⊎◌, nat_lt}
 use Rattle.std.specs.Prelude.{get_or}
 use Rattle.std.proofs.lemmas.Option.{slice_get-get_or}
 use Rattle.std.proofs.lemmas.Bool.{eqb-true, eq-eqb, ne_eqb, ltb-true, ltb-false, cases_Bool}
@@ -8,7 +10,10 @@ use Rattle.zk_mem.specs.declared.fault.Fault.{Fault}
 use Rattle.zk_mem.specs.declared.fault.Fault.TheVariants.{BadAddress, BadProperty}
 use Rattle.zk_mem.specs.Map.{MemoryMap, readable_end, byte_at, cell_at, HasBytes}
 use Rattle.zk_tables.specs.declared.lists.Property.{Property}
-use Rattle.zk_tables.specs.PropertyList.{Spelling, Early, One, Two, size_bytes, IsWithin, Stands, IsProperty, AreProperties, IsPropertyList, LacksSize, LeavesData, list_byte, long_length, property_by, property_at, with_rest, properties_from, properties_at, ListsAreRead, AtMostOneList}
+use Rattle.zk_tables.specs.PropertyList.{Spelling, Early, One, Two, size_bytes, IsWithin, Stands, IsProperty}
+use Rattle.zk_tables.specs.PropertyList.{AreProperties, IsPropertyList, LacksSize, LeavesData, list_byte, long_length}
+use Rattle.zk_tables.specs.PropertyList.{property_by, property_at, with_rest, properties_from, properties_at}
+use Rattle.zk_tables.specs.PropertyList.{ListsAreRead, AtMostOneList}
 use Rattle.zk_tables.proofs.Steps.{bind_ok, bind_err, chosen, same_value}
 
 -- ---- one byte
@@ -16,9 +21,11 @@ use Rattle.zk_tables.proofs.Steps.{bind_ok, bind_err, chosen, same_value}
 abbrev byte_done : ℕ → Result ℕ Fault
 byte_done x = Ok x
 
-byte_found : (m : MemoryMap) (a x : ℕ) → byte_at m a ≡ Ok x → (nat_lt a (readable_end m) ≡ true) × (get_or m.bytes a 0 ≡ x)
+byte_found : (m : MemoryMap) (a x : ℕ) → byte_at m a ≡ Ok x → (nat_lt a (readable_end m) ≡ true)
+    × (get_or m.bytes a 0 ≡ x)
 unfolding byte_at
-byte_found m a x h = elim (chosen (nat_lt a (readable_end m)) _ _ _ h) [ inl t ↦ (t.0, same_value _ x t.1) | inr t ↦ absurd cc ]
+byte_found m a x h =
+    elim (chosen (nat_lt a (readable_end m)) _ _ _ h) [ inl t ↦ (t.0, same_value _ x t.1) | inr t ↦ absurd cc ]
 
 pub byte_below : (m : MemoryMap) (a x : ℕ) → byte_at m a ≡ Ok x → a < readable_end m
 byte_below m a x h = ltb-true a (readable_end m) (byte_found m a x h).0
@@ -41,7 +48,8 @@ byte_again : (m : MemoryMap) (a x : ℕ) → byte_at m a ≡ Ok x → list_byte 
 unfolding list_byte
 byte_again m a x h = let t = (byte_found m a x h).0 in rw t h
 
-lacks_byte : (m : MemoryMap) (a : ℕ) (e : Fault) → list_byte m a ≡ Err e → (e ≡ BadProperty) × (byte_at m a ≡ Err BadAddress)
+lacks_byte : (m : MemoryMap) (a : ℕ) (e : Fault) → list_byte m a ≡ Err e → (e ≡ BadProperty)
+    × (byte_at m a ≡ Err BadAddress)
 unfolding list_byte byte_at
 lacks_byte m a e h = elim (cases_Bool (nat_lt a (readable_end m))) [
   | inl t ↦ (let g = rw t at h in absurd cc)
@@ -70,7 +78,8 @@ some_property p = Ok (Some p)
 pub same_property : (p q : Property) → some_property p ≡ some_property q → p ≡ q
 same_property p q e = cc
 
-early_takes : (m : MemoryMap) (a first : ℕ) → first < 256 → m.version < 4 → first ≢ 0 → byte_at m a ≡ Ok first → IsProperty m a (made (first % 32) (a + 1) (first / 32 + 1))
+early_takes : (m : MemoryMap) (a first : ℕ) → first < 256 → m.version < 4 → first ≢ 0 → byte_at m a ≡ Ok first
+    → IsProperty m a (made (first % 32) (a + 1) (first / 32 + 1))
 early_takes m a first small low some h =
     let same : first ≡ 32 * (first / 32 + 1 - 1) + first % 32 = omega arith in
     record {
@@ -80,7 +89,8 @@ early_takes m a first small low some h =
       more = λ z. some (same_value first 0 (sym h ∙ z));
     }
 
-one_takes : (m : MemoryMap) (a first : ℕ) → first < 128 → 4 ≤ m.version → first ≢ 0 → byte_at m a ≡ Ok first → IsProperty m a (made (first % 64) (a + 1) (first / 64 + 1))
+one_takes : (m : MemoryMap) (a first : ℕ) → first < 128 → 4 ≤ m.version → first ≢ 0 → byte_at m a ≡ Ok first
+    → IsProperty m a (made (first % 64) (a + 1) (first / 64 + 1))
 one_takes m a first small low some h =
     let same : first ≡ 64 * (first / 64 + 1 - 1) + first % 64 = omega arith in
     record {
@@ -94,16 +104,20 @@ one_takes m a first small low some h =
 length_cases : (s : ℕ) → (long_length s % 64 ≡ s % 64) × (1 ≤ long_length s) × (long_length s ≤ 64)
 length_cases s = elim (cases_Bool (eqb (s % 64) 0)) [
   | inl t ↦ (let z : s % 64 ≡ 0 = eqb-true (s % 64) 0 t in rw t (sym z, omega arith, omega arith))
-  | inr t ↦ (let some : s % 64 ≡ 0 → ⊥ = λ z. (let yes = eq-eqb (s % 64) 0 z in absurd cc) in rw t (omega arith, omega arith, omega arith))
+  | inr t ↦ (let some : s % 64 ≡ 0 → ⊥ = λ z. (let yes = eq-eqb (s % 64) 0 z in absurd cc) in
+      rw t (omega arith, omega arith, omega arith))
 ]
 
 length_again : (y l : ℕ) → 1 ≤ l → l ≤ 64 → long_length (64 * y + l % 64) ≡ l
 length_again y l low high = elim (cases_Bool (eqb ((64 * y + l % 64) % 64) 0)) [
   | inl t ↦ (let z = eqb-true ((64 * y + l % 64) % 64) 0 t in rw t (omega arith))
-  | inr t ↦ (let some : (64 * y + l % 64) % 64 ≡ 0 → ⊥ = λ z. (let yes = eq-eqb ((64 * y + l % 64) % 64) 0 z in absurd cc) in rw t (omega arith))
+  | inr t ↦ (let some : (64 * y + l % 64) % 64 ≡ 0 → ⊥ = λ z. (let yes = eq-eqb ((64 * y + l % 64) % 64) 0 z in
+      absurd cc) in rw t (omega arith))
 ]
 
-two_takes : (m : MemoryMap) (a first second : ℕ) → first < 256 → 128 ≤ first → 4 ≤ m.version → byte_at m a ≡ Ok first → byte_at m (a + 1) ≡ Ok second → IsProperty m a (made (first % 64) (a + 2) (long_length second))
+two_takes : (m : MemoryMap) (a first second : ℕ) → first < 256 → 128 ≤ first → 4 ≤ m.version
+    → byte_at m a ≡ Ok first → byte_at m (a + 1) ≡ Ok second
+    → IsProperty m a (made (first % 64) (a + 2) (long_length second))
 two_takes m a first second small high low h k =
     let l = length_cases second in
     let same : first ≡ 128 + 64 * (first / 64 - 2) + first % 64 = omega arith in
@@ -115,7 +129,8 @@ two_takes m a first second small high low h k =
       more = λ z. (let none : first ≡ 0 = same_value first 0 (sym h ∙ z) in omega arith);
     }
 
-pub property_takes : (m : MemoryMap) (a : ℕ) (p : Property) → HasBytes m → property_at m a ≡ Ok (Some p) → IsProperty m a p
+pub property_takes : (m : MemoryMap) (a : ℕ) (p : Property) → HasBytes m → property_at m a ≡ Ok (Some p)
+    → IsProperty m a p
 unfolding property_at property_by
 property_takes m a p fits h =
     let e = bind_ok (list_byte m a) (property_by m a) (Some p) h in
@@ -126,12 +141,14 @@ property_takes m a p fits h =
       | inl t ↦ absurd cc
       | inr t ↦ (let some : first ≢ 0 = λ z. (let yes = eq-eqb first 0 z in absurd cc) in
           elim (chosen (nat_lt m.version 4) _ _ _ t.1) [
-            | inl v ↦ (let low = ltb-true m.version 4 v.0 in rw (← same_property _ p v.1) (early_takes m a first small low some at))
+            | inl v ↦ (let low = ltb-true m.version 4 v.0 in
+                rw (← same_property _ p v.1) (early_takes m a first small low some at))
             | inr v ↦ (let late : 4 ≤ m.version = ltb-false m.version 4 v.0 in
                 elim (chosen (nat_lt first 128) _ _ _ v.1) [
                   | inl s ↦ rw (← same_property _ p s.1) (one_takes m a first (ltb-true first 128 s.0) late some at)
                   | inr s ↦ (let r = bind_ok (list_byte m (a + 1)) _ (Some p) s.1 in
-                      rw (← same_property _ p r.2) (two_takes m a first r.0 small (ltb-false first 128 s.0) late at (takes_byte m (a + 1) r.0 r.1)))
+                      rw (← same_property _ p r.2) (two_takes m a first r.0 small (ltb-false first 128 s.0) late
+                      at (takes_byte m (a + 1) r.0 r.1)))
                 ])
           ])
     ]
@@ -140,7 +157,8 @@ byte_not_zero : (m : MemoryMap) (a x : ℕ) → byte_at m a ≡ Ok x → byte_at
 byte_not_zero m a x h ne = ne_eqb x 0 (λ z. ne (h ∙ ap (λ (y : ℕ). byte_done y) z))
 
 -- the property that its bytes spell is read
-pub spelled_again : (m : MemoryMap) (a : ℕ) (p : Property) (s : Spelling) → IsWithin m.version s p → Stands m a (size_bytes s p) p.address → byte_at m a ≢ Ok 0 → property_at m a ≡ Ok (Some p)
+pub spelled_again : (m : MemoryMap) (a : ℕ) (p : Property) (s : Spelling) → IsWithin m.version s p
+    → Stands m a (size_bytes s p) p.address → byte_at m a ≢ Ok 0 → property_at m a ≡ Ok (Some p)
 unfolding property_at property_by
 spelled_again m a p Early w h ne =
     let test = byte_not_zero m a (32 * (p.length - 1) + p.number) h.0 ne in
@@ -218,14 +236,17 @@ property_lacking m a (inr (first, late, h, high, k)) =
 
 -- ---- the whole list
 
-list_takes : (m : MemoryMap) (n a : ℕ) (ps : List Property) → HasBytes m → properties_from m n a ≡ Ok ps → IsPropertyList m a ps
+list_takes : (m : MemoryMap) (n a : ℕ) (ps : List Property) → HasBytes m → properties_from m n a ≡ Ok ps
+    → IsPropertyList m a ps
 unfolding properties_from
 list_takes m zero a ps fits h = absurd cc
 list_takes m (suc n) a ps fits h =
     let e = bind_ok (property_at m a) (λ p. with_rest p (λ b. properties_from m n b)) ps h in
     list_after m n a e.0 ps fits e.1 e.2 (λ b qs. list_takes m n b qs fits)
   where
-    list_after : (m : MemoryMap) (n a : ℕ) (r : Option Property) (ps : List Property) → HasBytes m → property_at m a ≡ Ok r → with_rest r (λ b. properties_from m n b) ≡ Ok ps → ((b : ℕ) (qs : List Property) → properties_from m n b ≡ Ok qs → IsPropertyList m b qs) → IsPropertyList m a ps
+    list_after : (m : MemoryMap) (n a : ℕ) (r : Option Property) (ps : List Property) → HasBytes m
+        → property_at m a ≡ Ok r → with_rest r (λ b. properties_from m n b) ≡ Ok ps
+        → ((b : ℕ) (qs : List Property) → properties_from m n b ≡ Ok qs → IsPropertyList m b qs) → IsPropertyList m a ps
     list_after m n a None ps fits h k rest = (let none : [] ≡ ps = cc in rw (← none) (a, refl, end_takes m a h))
     list_after m n a (Some p) ps fits h k rest =
         let r = bind_ok (properties_from m n (p.address + p.length)) _ ps k in
@@ -238,16 +259,19 @@ record Grows (m : MemoryMap) (a : ℕ) (p : Property) : Type 0 where
   onward : a < p.address + p.length
 
 -- a property lies before the next one
-grows : (m : MemoryMap) (a : ℕ) (p : Property) (s : Spelling) → IsWithin m.version s p → Stands m a (size_bytes s p) p.address → Grows m a p
+grows : (m : MemoryMap) (a : ℕ) (p : Property) (s : Spelling) → IsWithin m.version s p
+    → Stands m a (size_bytes s p) p.address → Grows m a p
 grows m a p Early w h = record { inside = byte_below m a _ h.0; onward = omega (arith, h.1) }
 grows m a p One w h = record { inside = byte_below m a _ h.0; onward = omega (arith, h.1) }
 grows m a p (Two x y) w h = record { inside = byte_below m a _ h.0; onward = omega (arith, h.1.1) }
 
-list_again : (m : MemoryMap) (n a : ℕ) (ps : List Property) (b : ℕ) → AreProperties m a ps b → byte_at m b ≡ Ok 0 → readable_end m ≤ n + a → properties_from m n a ≡ Ok ps
+list_again : (m : MemoryMap) (n a : ℕ) (ps : List Property) (b : ℕ) → AreProperties m a ps b → byte_at m b ≡ Ok 0
+    → readable_end m ≤ n + a → properties_from m n a ≡ Ok ps
 unfolding properties_from
 list_again m zero a [] b p h room = let below = byte_below m b 0 h in let same : a ≡ b = p in absurd (omega arith)
 list_again m (suc n) a [] b p h room = let here : byte_at m a ≡ Ok 0 = rw p h in rw (end_again m a here) refl
-list_again m zero a (p ∷ ps) b q h room = let g = grows m a p q.0.spelling q.0.within q.0.bytes in let below = g.inside in absurd (omega arith)
+list_again m zero a (p ∷ ps) b q h room =
+    let g = grows m a p q.0.spelling q.0.within q.0.bytes in let below = g.inside in absurd (omega arith)
 list_again m (suc n) a (p ∷ ps) b q h room =
     let g = grows m a p q.0.spelling q.0.within q.0.bytes in
     let onward = g.onward in
@@ -262,19 +286,25 @@ cut_here : (m : MemoryMap) (a : ℕ) (e : Fault) → (e ≡ BadProperty) × Lack
 unfolding Cut
 cut_here m a e h = (h.0, ([], a, refl, h.1))
 
-cut_later : (m : MemoryMap) (a : ℕ) (p : Property) (e : Fault) → IsProperty m a p → Cut m (p.address + p.length) e → Cut m a e
+cut_later : (m : MemoryMap) (a : ℕ) (p : Property) (e : Fault) → IsProperty m a p
+    → Cut m (p.address + p.length) e → Cut m a e
 unfolding Cut
 cut_later m a p e h c = (c.0, (p ∷ c.1.0, c.1.1, (h, c.1.2), c.1.3))
 
-list_cut : (m : MemoryMap) (n a : ℕ) (e : Fault) → HasBytes m → readable_end m ≤ n + a → properties_from m n a ≡ Err e → Cut m a e
+list_cut : (m : MemoryMap) (n a : ℕ) (e : Fault) → HasBytes m → readable_end m ≤ n + a
+    → properties_from m n a ≡ Err e → Cut m a e
 unfolding properties_from
-list_cut m zero a e fits room h = let is : e ≡ BadProperty = cc in cut_here m a e (is, inl (byte_outside m a (omega arith)))
-list_cut m (suc n) a e fits room h = elim (bind_err (property_at m a) (λ p. with_rest p (λ b. properties_from m n b)) e h) [
-  | inl f ↦ cut_here m a e (property_err m a e f)
-  | inr f ↦ cut_after m n a f.0 e fits room f.1 f.2 (λ b low. list_cut m n b e fits low)
-]
+list_cut m zero a e fits room h =
+    let is : e ≡ BadProperty = cc in cut_here m a e (is, inl (byte_outside m a (omega arith)))
+list_cut m (suc n) a e fits room h =
+    elim (bind_err (property_at m a) (λ p. with_rest p (λ b. properties_from m n b)) e h) [
+      | inl f ↦ cut_here m a e (property_err m a e f)
+      | inr f ↦ cut_after m n a f.0 e fits room f.1 f.2 (λ b low. list_cut m n b e fits low)
+    ]
   where
-    cut_after : (m : MemoryMap) (n a : ℕ) (r : Option Property) (e : Fault) → HasBytes m → readable_end m ≤ suc n + a → property_at m a ≡ Ok r → with_rest r (λ b. properties_from m n b) ≡ Err e → ((b : ℕ) → readable_end m ≤ n + b → properties_from m n b ≡ Err e → Cut m b e) → Cut m a e
+    cut_after : (m : MemoryMap) (n a : ℕ) (r : Option Property) (e : Fault) → HasBytes m
+        → readable_end m ≤ suc n + a → property_at m a ≡ Ok r → with_rest r (λ b. properties_from m n b) ≡ Err e
+        → ((b : ℕ) → readable_end m ≤ n + b → properties_from m n b ≡ Err e → Cut m b e) → Cut m a e
     cut_after m n a None e fits room h k rest = absurd cc
     cut_after m n a (Some p) e fits room h k rest =
         let q = property_takes m a p fits h in
@@ -285,7 +315,8 @@ list_cut m (suc n) a e fits room h = elim (bind_err (property_at m a) (λ p. wit
           | inr f ↦ absurd cc
         ]
 
-cut_reads : (m : MemoryMap) (n a : ℕ) (ps : List Property) (b : ℕ) → AreProperties m a ps b → LacksSize m b → properties_from m n a ≡ Err BadProperty
+cut_reads : (m : MemoryMap) (n a : ℕ) (ps : List Property) (b : ℕ) → AreProperties m a ps b → LacksSize m b
+    → properties_from m n a ≡ Err BadProperty
 unfolding properties_from
 cut_reads m zero a ps b p h = refl
 cut_reads m (suc n) a [] b p h = let here : LacksSize m a = rw p h in rw (property_lacking m a here) refl
@@ -294,7 +325,8 @@ cut_reads m (suc n) a (p ∷ ps) b q h =
     rw (spelled_again m a p q.0.spelling q.0.within q.0.bytes q.0.more, rest) refl
 
 -- a property takes its size byte and a byte of data
-pub onward_two : (m : MemoryMap) (a : ℕ) (p : Property) (s : Spelling) → IsWithin m.version s p → Stands m a (size_bytes s p) p.address → a + 2 ≤ p.address + p.length
+pub onward_two : (m : MemoryMap) (a : ℕ) (p : Property) (s : Spelling) → IsWithin m.version s p
+    → Stands m a (size_bytes s p) p.address → a + 2 ≤ p.address + p.length
 onward_two m a p Early w h = omega (arith, h.1)
 onward_two m a p One w h = omega (arith, h.1)
 onward_two m a p (Two x y) w h = omega (arith, h.1.1)
@@ -306,7 +338,8 @@ list_room m a (p ∷ ps) b q =
     let rest = list_room m (p.address + p.length) ps b q.1 in
     omega arith
 
-one_of : (m : MemoryMap) (a : ℕ) → HasBytes m → (r : Result (List Property) Fault) → properties_at m a ≡ r → ((ps : List Property) × IsPropertyList m a ps) ⊎ LeavesData m a
+one_of : (m : MemoryMap) (a : ℕ) → HasBytes m → (r : Result (List Property) Fault) → properties_at m a ≡ r
+    → ((ps : List Property) × IsPropertyList m a ps) ⊎ LeavesData m a
 unfolding properties_at Cut
 one_of m a fits (Ok ps) h = inl (ps, list_takes m (readable_end m) a ps fits h)
 one_of m a fits (Err e) h = inr (list_cut m (readable_end m) a e fits (omega arith) h).1
@@ -314,10 +347,19 @@ one_of m a fits (Err e) h = inr (list_cut m (readable_end m) a e fits (omega ari
 pub lists_are_read : ListsAreRead
 unfolding properties_at Cut
 lists_are_read m a fits = record {
-  list = λ ps. (list_takes m (readable_end m) a ps fits, λ l. list_again m (readable_end m) a ps l.0 l.1 l.2 (omega arith));
-  leaves = (λ h. (list_cut m (readable_end m) a BadProperty fits (omega arith) h).1, λ l. cut_reads m (readable_end m) a l.0 l.1 l.2 l.3);
+  list =
+      λ ps. (
+        list_takes m (readable_end m) a ps fits,
+        λ l. list_again m (readable_end m) a ps l.0 l.1 l.2
+            (omega arith),
+      );
+  leaves = (
+    λ h. (list_cut m (readable_end m) a BadProperty fits (omega arith) h).1,
+    λ l. cut_reads m (readable_end m) a l.0 l.1 l.2 l.3,
+  );
   one = one_of m a fits (properties_at m a) refl;
-  not_both = λ ps l c. (let list = list_again m (readable_end m) a ps l.0 l.1 l.2 (omega arith) in let cut = cut_reads m (readable_end m) a c.0 c.1 c.2 c.3 in absurd cc);
+  not_both = λ ps l c. (let list = list_again m (readable_end m) a ps l.0 l.1 l.2 (omega arith) in
+      let cut = cut_reads m (readable_end m) a c.0 c.1 c.2 c.3 in absurd cc);
   bounded = λ ps l. (let room = list_room m a ps l.0 l.1 in let inside = byte_below m l.0 0 l.2 in omega arith);
 }
 

@@ -1,5 +1,6 @@
 -- Tables that lie inside memory, copied at once.
-use Rattle.std.proofs.Common.{◌≡◌, ◌≤◌, ◌⊎◌, ℕ, zero, suc, ◌+◌, ◌%◌, List, ◌++◌, length, take, drop, get_or, min, Ok, refl, sym, ap, ◌∙◌, arith, inl, inr}
+use Rattle.std.proofs.Common.{◌≡◌, ◌≤◌, ◌⊎◌, ℕ, zero, suc, ◌+◌, ◌%◌, List, ◌++◌, length, take, drop, get_or, min, Ok}
+use Rattle.std.proofs.Common.{refl, sym, ap, ◌∙◌, arith, inl, inr}
 use Rattle.std.proofs.lemmas.List.{drop_more, take_all, length-take, length-drop}
 use Rattle.std.proofs.lemmas.List.Edits.{paste_more, paste_none, length-paste}
 use lib.Seq.{paste}
@@ -23,7 +24,8 @@ abbrev pasted : MemoryMap → ℕ → List ℕ → ℕ → MemoryMap
 pasted m b s i = record m { bytes = paste m.bytes b s i }
 
 -- the rest of a list is stored after its first bytes
-stores : (m : MemoryMap) (b i n : ℕ) (s : List ℕ) → length s ≡ i + n → b + (i + n) ≤ readable_end m → b + (i + n) ≤ m.static_base
+stores : (m : MemoryMap) (b i n : ℕ) (s : List ℕ) → length s ≡ i + n → b + (i + n) ≤ readable_end m
+    → b + (i + n) ≤ m.static_base
     → bytes_stored (pasted m b s i) (places (b + i) n) (drop i s) ≡ Ok (pasted m b s (i + n))
 unfolding places bytes_stored
 stores m b i zero s size inside dynamic = let all : i + 0 ≡ i = omega arith in rw all refl
@@ -38,7 +40,8 @@ stores m b i (suc n) s size inside dynamic =
     (stores m b (i + 1) n s (omega arith) (omega arith) (omega arith))
 
 -- a list stored in a table that lies inside
-stores_all : (m : MemoryMap) (b n : ℕ) (s : List ℕ) → length s ≡ n → b + n ≤ readable_end m → b + n ≤ m.static_base → bytes_stored m (places b n) s ≡ Ok (pasted m b s n)
+stores_all : (m : MemoryMap) (b n : ℕ) (s : List ℕ) → length s ≡ n → b + n ≤ readable_end m
+    → b + n ≤ m.static_base → bytes_stored m (places b n) s ≡ Ok (pasted m b s n)
 stores_all m b n s size inside dynamic =
     let none : m ≡ pasted m b s 0 = ap (λ (bytes : List ℕ). record m { bytes = bytes }) (paste_none m.bytes b s) in
     let same : b + 0 ≡ b = omega arith in
@@ -49,21 +52,24 @@ stores_all m b n s size inside dynamic =
     ∙ all
     ∙ ap (λ (i : ℕ). Ok (pasted m b s i)) count
 
-pub moved : (m : MemoryMap) (a b n : ℕ) → a + n ≤ readable_end m → b + n ≤ min m.static_base (readable_end m) → copied_at_once m (places a n) (places b n) ≡ Ok (with_copy m a b n)
+pub moved : (m : MemoryMap) (a b n : ℕ) → a + n ≤ readable_end m → b + n ≤ min m.static_base (readable_end m)
+    → copied_at_once m (places a n) (places b n) ≡ Ok (with_copy m a b n)
 moved m a b n inside dynamic =
     let s = take n (drop a m.bytes) in
     let rest : n ≤ length (drop a m.bytes) = omega (arith, length-drop a m.bytes) in
     let size : length s ≡ n = omega (arith, length-take n (drop a m.bytes)) in
     let whole : take n s ≡ s = take_all n s (omega arith) in
     let stored = stores_all m b n s size (omega arith) (omega arith) in
-    rw (reads m a n inside) (stored ∙ ap (λ (l : List ℕ). Ok (record m { bytes = take b m.bytes ++ l ++ drop (b + n) m.bytes })) whole)
+    rw (reads m a n inside)
+    (stored ∙ ap (λ (l : List ℕ). Ok (record m { bytes = take b m.bytes ++ l ++ drop (b + n) m.bytes })) whole)
 
 -- no byte is stored over before it is read, where the second table does not begin inside of the first
 read_first : (a b n : ℕ) → a + n ≤ 65536 → b + n ≤ 65536 → (b ≤ a) ⊎ (a + n ≤ b) → IsReadFirst a b n
 read_first a b n one two (inl below) i j lower within e = omega arith
 read_first a b n one two (inr above) i j lower within e = omega arith
 
-pub moved_forwards : (m : MemoryMap) (a b n : ℕ) → (b ≤ a) ⊎ (a + n ≤ b) → a + n ≤ readable_end m → b + n ≤ min m.static_base (readable_end m) → copied_forwards m (places a n) (places b n) ≡ Ok (with_copy m a b n)
+pub moved_forwards : (m : MemoryMap) (a b n : ℕ) → (b ≤ a) ⊎ (a + n ≤ b) → a + n ≤ readable_end m
+    → b + n ≤ min m.static_base (readable_end m) → copied_forwards m (places a n) (places b n) ≡ Ok (with_copy m a b n)
 moved_forwards m a b n apart inside dynamic =
     let at_once = moved m a b n inside dynamic in
     forwards_at_once m a b n (read_first a b n (omega arith) (omega arith) apart) (rw at_once refl) ∙ at_once

@@ -1,5 +1,6 @@
 -- A table is searched entry by entry.
-use Rattle.std.proofs.Common.{◌≡◌, ◌≤◌, ◌<◌, ℕ, zero, suc, ◌+◌, ◌-◌, ◌%◌, Option, Some, None, Result, Ok, Err, nat_eq, cond, refl, sym, ap, ◌∙◌, arith}
+use Rattle.std.proofs.Common.{◌≡◌, ◌≤◌, ◌<◌, ℕ, zero, suc, ◌+◌, ◌-◌, ◌%◌, Option, Some, None, Result, Ok, Err, nat_eq}
+use Rattle.std.proofs.Common.{cond, refl, sym, ap, ◌∙◌, arith}
 use Rattle.std.proofs.lemmas.Bool.{eq-eqb, ne_eqb}
 use Rattle.zk_mem.specs.declared.fault.Fault.{Fault}
 use Rattle.zk_mem.specs.Map.{MemoryMap}
@@ -18,24 +19,29 @@ scanned-mod m x a form (suc n) =
     let here : a % 65536 % 65536 ≡ a % 65536 = omega arith in
     let next : (a % 65536 + form % 128) % 65536 ≡ (a + form % 128) % 65536 = omega arith in
     let rest : scanned m x (a % 65536 + form % 128) form n ≡ scanned m x (a + form % 128) form n =
-    sym (scanned-mod m x (a % 65536 + form % 128) form n) ∙ ap (λ (b : ℕ). scanned m x b form n) next ∙ scanned-mod m x (a + form % 128) form n in
-    ap (λ (b : ℕ). step x b (field_at m form b) (scanned m x (a % 65536 + form % 128) form n)) here ∙ ap (step x (a % 65536) (field_at m form (a % 65536))) rest
+    sym (scanned-mod m x (a % 65536 + form % 128) form n) ∙ ap (λ (b : ℕ). scanned m x b form n) next
+    ∙ scanned-mod m x (a + form % 128) form n in
+    ap (λ (b : ℕ). step x b (field_at m form b) (scanned m x (a % 65536 + form % 128) form n)) here
+    ∙ ap (step x (a % 65536) (field_at m form (a % 65536))) rest
 
-pub scan_found : (m : MemoryMap) (x a form i n : ℕ) → a < 65536 → i < n → field_at m form a ≡ Ok x → scanned m x a form (n - i) ≡ Ok (Some a)
+pub scan_found : (m : MemoryMap) (x a form i n : ℕ) → a < 65536 → i < n → field_at m form a ≡ Ok x
+    → scanned m x a form (n - i) ≡ Ok (Some a)
 unfolding scanned step
 scan_found m x a form i n word h here =
     let more : n - i ≡ suc (n - (i + 1)) = omega arith in
     let low : a % 65536 ≡ a = omega arith in
     rw (more, low, here, eq-eqb x x refl) refl
 
-pub scan_on : (m : MemoryMap) (x v a form i n : ℕ) → a < 65536 → i < n → field_at m form a ≡ Ok v → (v ≡ x → ⊥) → scanned m x a form (n - i) ≡ scanned m x ((a + form % 128) % 65536) form (n - (i + 1))
+pub scan_on : (m : MemoryMap) (x v a form i n : ℕ) → a < 65536 → i < n → field_at m form a ≡ Ok v → (v ≡ x → ⊥)
+    → scanned m x a form (n - i) ≡ scanned m x ((a + form % 128) % 65536) form (n - (i + 1))
 unfolding scanned step
 scan_on m x v a form i n word h here other =
     let more : n - i ≡ suc (n - (i + 1)) = omega arith in
     let low : a % 65536 ≡ a = omega arith in
     rw (more, scanned-mod m x (a + form % 128) form (n - (i + 1)), low, here, ne_eqb v x other) refl
 
-pub scan_fault : (m : MemoryMap) (x a form i n : ℕ) (f : Fault) → a < 65536 → i < n → field_at m form a ≡ Err f → scanned m x a form (n - i) ≡ Err f
+pub scan_fault : (m : MemoryMap) (x a form i n : ℕ) (f : Fault) → a < 65536 → i < n → field_at m form a ≡ Err f
+    → scanned m x a form (n - i) ≡ Err f
 unfolding scanned step
 scan_fault m x a form i n f word h here =
     let more : n - i ≡ suc (n - (i + 1)) = omega arith in

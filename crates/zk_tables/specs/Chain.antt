@@ -1,5 +1,6 @@
 -- The chain of an object's children (Standard, sections 12.3 and 12.5).
-use Rattle.std.specs.Prelude.{◌≡◌, ◌≢◌, true, false, ℕ, zero, suc, List, [], ◌∷◌, length, ◌≤◌, nat_eq, ◌==◌, ◌⊎◌, ◌↔◌, if◌then◌else◌, Result, Ok, Err}
+use Rattle.std.specs.Prelude.{◌≡◌, ◌≢◌, true, false, ℕ, zero, suc, List, [], ◌∷◌, length, ◌≤◌, nat_eq, ◌==◌, ◌⊎◌, ◌↔◌}
+use Rattle.std.specs.Prelude.{if◌then◌else◌, Result, Ok, Err}
 use Rattle.std.specs.List.{IsDistinct, list_any}
 use Rattle.zk_mem.specs.declared.fault.Fault.{Fault}
 use Rattle.zk_mem.specs.declared.fault.Fault.TheVariants.{BadObject, BadTree}

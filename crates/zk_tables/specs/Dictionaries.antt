@@ -1,5 +1,7 @@
 -- Dictionaries and their entries (Standard, sections 13.2 to 13.5).
-use Rattle.std.specs.Prelude.{◌≡◌, ◌≢◌, ℕ, zero, suc, ◌+◌, ◌*◌, ◌-◌, ◌<◌, ◌≤◌, Bool, true, false, ◌&&◌, ◌||◌, List, [], ◌∷◌, ◌++◌, length, map, take, drop, get_or, Result, Ok, Err, nat_lt, nat_le, ◌==◌, ◌↔◌, if◌then◌else◌}
+use Rattle.std.specs.Prelude.{◌≡◌, ◌≢◌, ℕ, zero, suc, ◌+◌, ◌*◌, ◌-◌, ◌<◌, ◌≤◌, Bool, true, false, ◌&&◌, ◌||◌, List, []}
+use Rattle.std.specs.Prelude.{◌∷◌, ◌++◌, length, map, take, drop, get_or, Result, Ok, Err, nat_lt, nat_le, ◌==◌, ◌↔◌}
+use Rattle.std.specs.Prelude.{if◌then◌else◌}
 use Rattle.std.specs.List.{concat, AllByRecursion}
 use Rattle.zk_mem.specs.declared.fault.Fault.{Fault}
 use Rattle.zk_mem.specs.declared.fault.Fault.TheVariants.{BadDictionary}
@@ -88,7 +90,8 @@ bytes_from m a (suc n) = get_or m.bytes a 0 ∷ bytes_from m (a + 1) n
 
 -- four bytes from an index on as one number, the first the highest
 abbrev pub front_at : List ℕ → ℕ → ℕ
-front_at bytes i = get_or bytes i 0 * 16777216 + get_or bytes (i + 1) 0 * 65536 + get_or bytes (i + 2) 0 * 256 + get_or bytes (i + 3) 0
+front_at bytes i = get_or bytes i 0 * 16777216 + get_or bytes (i + 1) 0 * 65536 + get_or bytes (i + 2)
+    0 * 256 + get_or bytes (i + 3) 0
 
 -- the key from an index on as one number, by the version
 unfoldable pub number_at : ℕ → List ℕ → ℕ → ℕ
@@ -100,7 +103,8 @@ number_at version bytes i =
 -- the keys of n entries of a length, from an address on
 unfoldable pub keys_from : MemoryMap → ℕ → ℕ → ℕ → List (List ℕ)
 keys_from m a entry_length zero = []
-keys_from m a entry_length (suc n) = bytes_from m a (key_length m.version) ∷ keys_from m (a + entry_length) entry_length n
+keys_from m a entry_length (suc n) =
+    bytes_from m a (key_length m.version) ∷ keys_from m (a + entry_length) entry_length n
 
 -- where the parts of a dictionary stand, by its separators, the length of an entry and its count, and how it can be
 -- searched
@@ -117,7 +121,8 @@ parts_at m a separators entry_length count = record {
 -- the dictionary of so many separators, with entries of a length, by its count
 unfoldable pub dictionary_by : MemoryMap → ℕ → ℕ → ℕ → ℕ → Result Dictionary Fault
 dictionary_by m a separators entry_length count =
-    if nat_lt entry_length (key_length m.version) || nat_lt (readable_end m) (a + separators + 4 + entry_length * magnitude count)
+    if nat_lt entry_length (key_length m.version) || nat_lt (readable_end m)
+    (a + separators + 4 + entry_length * magnitude count)
     then Err BadDictionary
     else Ok (parts_at m a separators entry_length count)
 
@@ -184,7 +189,8 @@ ReadDictionariesStand = (m : MemoryMap) (a : ℕ) (d : Dictionary) → dictionar
 
 -- and of each other memory of the version that has the same bytes there, whatever its length and its static base
 abbrev pub DictionariesAreTheirBytes : Type 0
-DictionariesAreTheirBytes = (m n : MemoryMap) (d : Dictionary) → IsDictionaryOf m d → n.version ≡ m.version → bytes_of n d ≡ bytes_of m d → IsDictionaryOf n d
+DictionariesAreTheirBytes = (m n : MemoryMap) (d : Dictionary) → IsDictionaryOf m d → n.version ≡ m.version
+    → bytes_of n d ≡ bytes_of m d → IsDictionaryOf n d
 
 -- no entry begins with a key
 abbrev pub NoneBegins : List (List ℕ) → List ℕ → Type 0
@@ -192,7 +198,9 @@ NoneBegins entries key = AllByRecursion (λ e. begins_with e key ≡ false) entr
 
 -- a key is looked up: the first entry that begins with it is found, and 0 where there is none (section 13.5)
 pub record IsLookUp (m : MemoryMap) (a : ℕ) (t : Table) (key : List ℕ) : Type 0 where
-  pub first : (before behind : List (List ℕ)) (entry : List ℕ) → length key ≡ key_length m.version → t.entries ≡ before ++ entry ∷ behind → begins_with entry key ≡ true → NoneBegins before key → found_in m (described m a t) key ≡ entry_start (described m a t) (length before)
+  pub first : (before behind : List (List ℕ)) (entry : List ℕ) → length key ≡ key_length m.version
+      → t.entries ≡ before ++ entry ∷ behind → begins_with entry key ≡ true → NoneBegins before key
+      → found_in m (described m a t) key ≡ entry_start (described m a t) (length before)
   pub none : NoneBegins t.entries key → found_in m (described m a t) key ≡ 0
   -- no entry has a key of another length
   pub other : length key ≢ key_length m.version → found_in m (described m a t) key ≡ 0

@@ -1,9 +1,11 @@
 -- Search by halves in a dictionary whose keys do not fall (Standard, section 13.5).
-use Rattle.std.specs.Prelude.{◌≡◌, ℕ, zero, suc, ◌+◌, ◌-◌, ◌/◌, ◌<◌, ◌≤◌, true, List, ◌∷◌, ◌++◌, length, nat_lt, ◌==◌, ◌↔◌, if◌then◌else◌}
+use Rattle.std.specs.Prelude.{◌≡◌, ℕ, zero, suc, ◌+◌, ◌-◌, ◌/◌, ◌<◌, ◌≤◌, true, List, ◌∷◌, ◌++◌, length, nat_lt, ◌==◌}
+use Rattle.std.specs.Prelude.{◌↔◌, if◌then◌else◌}
 use Rattle.std.specs.List.{AllByRecursion}
 use Rattle.zk_mem.specs.Map.{MemoryMap}
 use Rattle.zk_tables.specs.declared.dictionary.Dictionary.{Dictionary}
-use Rattle.zk_tables.specs.Dictionaries.{key_length, is_above, do_not_fall, bytes_from, Table, IsTable, described, entry_start, has_key, found_in}
+use Rattle.zk_tables.specs.Dictionaries.{key_length, is_above, do_not_fall, bytes_from, Table, IsTable, described}
+use Rattle.zk_tables.specs.Dictionaries.{entry_start, has_key, found_in}
 
 -- the key of an entry, counted from 0
 abbrev pub entry_key : MemoryMap → Dictionary → ℕ → List ℕ
@@ -43,7 +45,8 @@ found_by_halves m d key = if length key == key_length m.version then found_at_en
 -- how many keys are compared: those on the way, and that of the entry that the search comes to
 abbrev pub compared_to_end : MemoryMap → Dictionary → List ℕ → ℕ
 compared_to_end m d key =
-    if nat_lt (halved_whole m d key).entry d.entries then (halved_whole m d key).compared + 1 else (halved_whole m d key).compared
+    if nat_lt (halved_whole m d key).entry d.entries then (halved_whole m d key).compared + 1
+    else (halved_whole m d key).compared
 
 -- the same, and none for a key of another length
 unfoldable pub compared_by_halves : MemoryMap → Dictionary → List ℕ → ℕ
@@ -64,11 +67,13 @@ pub record IsAbove (key other : List ℕ) : Type 0 where
 
 -- no key is above one that comes after it, next to it or later
 abbrev pub NoneFalls : List (List ℕ) → Type 0
-NoneFalls keys = (before between behind : List (List ℕ)) (key later : List ℕ) → keys ≡ before ++ key ∷ (between ++ later ∷ behind) → IsAbove key later → ⊥
+NoneFalls keys = (before between behind : List (List ℕ)) (key later : List ℕ) → keys ≡ before ++ key
+    ∷ (between ++ later ∷ behind) → IsAbove key later → ⊥
 
 -- keys of one length do not fall just where this is so
 abbrev pub KeysAreInOrder : Type 0
-KeysAreInOrder = (n : ℕ) (keys : List (List ℕ)) → AllByRecursion (λ key. length key ≡ n) keys → (do_not_fall keys ≡ true) ↔ NoneFalls keys
+KeysAreInOrder = (n : ℕ) (keys : List (List ℕ)) → AllByRecursion (λ key. length key ≡ n) keys
+    → (do_not_fall keys ≡ true) ↔ NoneFalls keys
 
 -- in a table whose keys do not fall, what is found by halves is the first entry that begins with the key, and it takes
 -- at most 16 comparisons
@@ -78,4 +83,5 @@ pub record IsFoundByHalves (m : MemoryMap) (d : Dictionary) (key : List ℕ) : T
 
 -- in each dictionary that can be searched so
 abbrev pub HalvesFindTheFirst : Type 0
-HalvesFindTheFirst = (m : MemoryMap) (a : ℕ) (t : Table) (key : List ℕ) → IsTable m a t → (described m a t).allows_halves ≡ true → IsFoundByHalves m (described m a t) key
+HalvesFindTheFirst = (m : MemoryMap) (a : ℕ) (t : Table) (key : List ℕ) → IsTable m a t
+    → (described m a t).allows_halves ≡ true → IsFoundByHalves m (described m a t) key

@@ -2,7 +2,6 @@ pub mod Layout
 pub mod Links
 pub mod Chain
 pub mod Tree
-pub mod TreeLaws
 pub mod Attributes
 pub mod PropertyList
 pub mod Properties
@@ -10,10 +9,9 @@ pub mod Dictionaries
 pub mod Halves
 pub mod Tokens
 pub mod Parsing
-pub mod Examples
 pub mod Runs
 pub mod Copying
 pub mod CopyLaws
 pub mod Scanning
 pub mod Rectangles
-pub mod ArrayExamples
+pub mod guards

@@ -1,5 +1,6 @@
 -- The three links of an object, to its parent, its sibling and its child (Standard, section 12.3).
-use Rattle.std.specs.Prelude.{◌≡◌, ◌≢◌, ℕ, Bool, List, [], ◌∷◌, ◌+◌, ◌*◌, ◌%◌, ◌<◌, ◌≤◌, Result, Ok, Err, nat_le, ◌==◌, if◌then◌else◌}
+use Rattle.std.specs.Prelude.{◌≡◌, ◌≢◌, ℕ, Bool, List, [], ◌∷◌, ◌+◌, ◌*◌, ◌%◌, ◌<◌, ◌≤◌, Result, Ok, Err, nat_le, ◌==◌}
+use Rattle.std.specs.Prelude.{if◌then◌else◌}
 use Rattle.zk_mem.specs.declared.fault.Fault.{Fault}
 use Rattle.zk_mem.specs.declared.fault.Fault.TheVariants.{ReadOnly}
 use Rattle.zk_mem.specs.Results.{◌>>=◌}
@@ -59,7 +60,8 @@ link_put m place o = address_of m place >>= λ a. number_put m a o
 
 -- whether a link may be written
 unfoldable pub write_test : MemoryMap → LinkPlace → Result (Unit {0}) Fault
-write_test m place = address_of m place >>= λ a. if nat_le (a + (layout_of m.version).link_bytes) m.static_base then Ok tt else Err ReadOnly
+write_test m place = address_of m place >>= λ a. if nat_le (a + (layout_of m.version).link_bytes) m.static_base
+    then Ok tt else Err ReadOnly
 
 -- whether links may be written: the first that may not decides
 abbrev pub write_tests : MemoryMap → LinkPlace → List LinkPlace → Result (Unit {0}) Fault
@@ -73,4 +75,5 @@ pub record WritesLink (m n : MemoryMap) (place : LinkPlace) (o : ℕ) : Type 0 w
 
 -- a link that is written, where it has room for the object's number
 abbrev pub LinksAreWritten : Type 0
-LinksAreWritten = (m n : MemoryMap) (place : LinkPlace) (o : ℕ) → ((layout_of m.version).link_bytes ≡ 1 → o < 256) → link_put m place o ≡ Ok n → WritesLink m n place o
+LinksAreWritten = (m n : MemoryMap) (place : LinkPlace) (o : ℕ) → ((layout_of m.version).link_bytes ≡ 1 → o < 256)
+    → link_put m place o ≡ Ok n → WritesLink m n place o

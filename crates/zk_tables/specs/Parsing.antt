@@ -1,5 +1,6 @@
 -- What dividing a text into words writes (Standard, section 15, `read` and `tokenise`).
-use Rattle.std.specs.Prelude.{◌≡◌, ℕ, zero, suc, ◌+◌, ◌*◌, ◌%◌, Bool, ◌&&◌, List, [], ◌∷◌, length, take, drop, map, Option, Some, None, Result, Ok, Err, nat_lt, ◌==◌, if◌then◌else◌}
+use Rattle.std.specs.Prelude.{◌≡◌, ℕ, zero, suc, ◌+◌, ◌*◌, ◌%◌, Bool, ◌&&◌, List, [], ◌∷◌, length, take, drop, map}
+use Rattle.std.specs.Prelude.{Option, Some, None, Result, Ok, Err, nat_lt, ◌==◌, if◌then◌else◌}
 use Rattle.zk_mem.specs.declared.fault.Fault.{Fault}
 use Rattle.zk_mem.specs.Results.{◌>>=◌}
 use Rattle.zk_mem.specs.Map.{MemoryMap, byte_at, byte_put, word_put}
@@ -19,7 +20,8 @@ letters_counted m a (suc n) = byte_at m a >>= λ c. letters_counted m (a + 1) n 
 -- bytes of data up to a zero, or n of them
 unfoldable pub letters_to_zero : MemoryMap → ℕ → ℕ → Result (List ℕ) Fault
 letters_to_zero m a zero = Ok []
-letters_to_zero m a (suc n) = byte_at m a >>= λ c. if c == 0 then Ok [] else (letters_to_zero m (a + 1) n >>= λ cs. Ok (c ∷ cs))
+letters_to_zero m a (suc n) =
+    byte_at m a >>= λ c. if c == 0 then Ok [] else (letters_to_zero m (a + 1) n >>= λ cs. Ok (c ∷ cs))
 
 -- where the letters of a text buffer begin
 abbrev pub letters_start : ℕ → ℕ
@@ -36,7 +38,12 @@ letters_of m text =
 -- a word in the dictionary: the address of its entry or 0, how many letters it has, and where it begins in the
 -- text buffer
 unfoldable pub word_in : MemoryMap → Dictionary → List ℕ → Token → Word
-word_in m d letters t = record { entry = found_in m d (key_of m (take t.length (drop t.position letters))); length = t.length; position = (t.position + letters_start m.version) % 256 }
+word_in m d letters t =
+    record {
+      entry = found_in m d (key_of m (take t.length (drop t.position letters)));
+      length = t.length;
+      position = (t.position + letters_start m.version) % 256;
+    }
 
 -- the word of a token, where there is one
 abbrev pub words_for : MemoryMap → Dictionary → List ℕ → Option Token → List Word
@@ -57,7 +64,8 @@ block_put m a leaves_unknown word =
 -- the memory with words in blocks, one after the other
 unfoldable pub blocks_put : MemoryMap → ℕ → Bool → List Word → Result MemoryMap Fault
 blocks_put m a leaves_unknown [] = Ok m
-blocks_put m a leaves_unknown (word ∷ words) = block_put m a leaves_unknown word >>= λ n. blocks_put n (a + 4) leaves_unknown words
+blocks_put m a leaves_unknown (word ∷ words) =
+    block_put m a leaves_unknown word >>= λ n. blocks_put n (a + 4) leaves_unknown words
 
 -- the memory with as many words in a parse buffer as its first byte allows, and how many they are in the second
 unfoldable pub words_put : MemoryMap → ℕ → Bool → List Word → Result MemoryMap Fault
@@ -68,10 +76,13 @@ words_put m parse leaves_unknown words = do
 
 -- the memory after the text in a text buffer was divided into words
 unfoldable pub tokenised : MemoryMap → ℕ → ℕ → Dictionary → Bool → Result MemoryMap Fault
-tokenised m text parse d leaves_unknown = letters_of m text >>= λ letters. words_put m parse leaves_unknown (words_of m d letters)
+tokenised m text parse d leaves_unknown =
+    letters_of m text >>= λ letters. words_put m parse leaves_unknown (words_of m d letters)
 
 -- ---- what may change
 
 -- nothing but a parse buffer has changed, after its first byte, which says how many words it has room for
 abbrev pub ChangesParseBuffer : MemoryMap → MemoryMap → ℕ → Type 0
-ChangesParseBuffer m n parse = ((most : ℕ) → byte_at m parse ≡ Ok most → IsSameBut m n (parse + 1) (parse + 2 + 4 * most)) × ((e : Fault) → byte_at m parse ≡ Err e → n ≡ m)
+ChangesParseBuffer m n parse =
+    ((most : ℕ) → byte_at m parse ≡ Ok most → IsSameBut m n (parse + 1) (parse + 2 + 4 * most))
+    × ((e : Fault) → byte_at m parse ≡ Err e → n ≡ m)

@@ -1,12 +1,14 @@
 -- The properties and the name of an object (Standard, sections 12.2, 12.4 and 15).
-use Rattle.std.specs.Prelude.{◌≡◌, ◌≢◌, ◌≤◌, ℕ, List, length, ◌+◌, ◌*◌, ◌-◌, ◌/◌, ◌%◌, Option, Some, None, Result, Ok, Err, nat_lt, ◌==◌, ◌||◌, if◌then◌else◌}
+use Rattle.std.specs.Prelude.{◌≡◌, ◌≢◌, ◌≤◌, ℕ, List, length, ◌+◌, ◌*◌, ◌-◌, ◌/◌, ◌%◌, Option, Some, None, Result, Ok}
+use Rattle.std.specs.Prelude.{Err, nat_lt, ◌==◌, ◌||◌, if◌then◌else◌}
 use Rattle.zk_mem.specs.declared.fault.Fault.{Fault}
 use Rattle.zk_mem.specs.declared.fault.Fault.TheVariants.{BadProperty}
 use Rattle.zk_mem.specs.Results.{◌>>=◌}
 use Rattle.zk_mem.specs.Map.{MemoryMap, HasBytes, readable_end, byte_at, word_at, byte_put, word_put}
 use Rattle.zk_tables.specs.declared.lists.Property.{Property}
 use Rattle.zk_tables.specs.Layout.{layout_of, entry_of, default_words_start}
-use Rattle.zk_tables.specs.PropertyList.{IsPropertyList, LeavesData, properties_at, list_byte, long_length, first_with, first_number, number_after, found_at, first_number_at, number_after_at}
+use Rattle.zk_tables.specs.PropertyList.{IsPropertyList, LeavesData, properties_at, list_byte, long_length, first_with}
+use Rattle.zk_tables.specs.PropertyList.{first_number, number_after, found_at, first_number_at, number_after_at}
 
 -- an object's property table; its address follows the links (section 12.3)
 unfoldable pub table_of : MemoryMap → ℕ → Result ℕ Fault

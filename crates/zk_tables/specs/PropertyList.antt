@@ -1,5 +1,6 @@
 -- The property list at an address (Standard, section 12.4).
-use Rattle.std.specs.Prelude.{◌≡◌, ◌≢◌, ℕ, zero, suc, ◌+◌, ◌*◌, ◌-◌, ◌/◌, ◌%◌, ◌<◌, ◌≤◌, List, [], ◌∷◌, length, Option, Some, None, Result, Ok, Err, nat_lt, ◌==◌, ◌⊎◌, ◌↔◌, if◌then◌else◌}
+use Rattle.std.specs.Prelude.{◌≡◌, ◌≢◌, ℕ, zero, suc, ◌+◌, ◌*◌, ◌-◌, ◌/◌, ◌%◌, ◌<◌, ◌≤◌, List, [], ◌∷◌, length, Option}
+use Rattle.std.specs.Prelude.{Some, None, Result, Ok, Err, nat_lt, ◌==◌, ◌⊎◌, ◌↔◌, if◌then◌else◌}
 use Rattle.zk_mem.specs.declared.fault.Fault.{Fault}
 use Rattle.zk_mem.specs.declared.fault.Fault.TheVariants.{BadAddress, BadProperty}
 use Rattle.zk_mem.specs.Results.{◌>>=◌}
@@ -50,7 +51,9 @@ IsPropertyList m a ps = (b : ℕ) × AreProperties m a ps b × (byte_at m b ≡ 
 
 -- size bytes would begin at a, and one of them lies outside data
 abbrev pub LacksSize : MemoryMap → ℕ → Type 0
-LacksSize m a = (byte_at m a ≡ Err BadAddress) ⊎ ((first : ℕ) × (4 ≤ m.version) × (byte_at m a ≡ Ok first) × (128 ≤ first) × (byte_at m (a + 1) ≡ Err BadAddress))
+LacksSize m a =
+    (byte_at m a ≡ Err BadAddress) ⊎ ((first : ℕ) × (4 ≤ m.version) × (byte_at m a ≡ Ok first) × (128 ≤ first)
+    × (byte_at m (a + 1) ≡ Err BadAddress))
 
 -- the properties leave data before a zero byte
 abbrev pub LeavesData : MemoryMap → ℕ → Type 0
@@ -72,7 +75,8 @@ property_by m a first =
     if first == 0 then Ok None
     else if nat_lt m.version 4 then Ok (Some (record { number = first % 32; address = a + 1; length = first / 32 + 1 }))
     else if nat_lt first 128 then Ok (Some (record { number = first % 64; address = a + 1; length = first / 64 + 1 }))
-    else (list_byte m (a + 1) >>= λ second. Ok (Some (record { number = first % 64; address = a + 2; length = long_length second })))
+    else (list_byte m (a + 1) >>= λ second. Ok
+    (Some (record { number = first % 64; address = a + 2; length = long_length second })))
 
 -- the property at a, or none at the end of a list
 unfoldable pub property_at : MemoryMap → ℕ → Result (Option Property) Fault
@@ -153,4 +157,5 @@ ListsAreRead = (m : MemoryMap) (a : ℕ) → HasBytes m → IsReading m a
 
 -- an address has at most one property list
 abbrev pub AtMostOneList : Type 0
-AtMostOneList = (m : MemoryMap) (a : ℕ) (ps qs : List Property) → IsPropertyList m a ps → IsPropertyList m a qs → ps ≡ qs
+AtMostOneList =
+    (m : MemoryMap) (a : ℕ) (ps qs : List Property) → IsPropertyList m a ps → IsPropertyList m a qs → ps ≡ qs

@@ -1,5 +1,6 @@
 -- The words of a text (Standard, section 13.6.1).
-use Rattle.std.specs.Prelude.{◌≡◌, ◌≤◌, ◌<◌, ℕ, ◌+◌, Bool, true, false, ◌&&◌, not, List, [], ◌∷◌, length, get_or, Option, Some, None, ◌==◌, nat_eq, ◌⊎◌, ◌↔◌, if◌then◌else◌}
+use Rattle.std.specs.Prelude.{◌≡◌, ◌≤◌, ◌<◌, ℕ, ◌+◌, Bool, true, false, ◌&&◌, not, List, [], ◌∷◌, length, get_or}
+use Rattle.std.specs.Prelude.{Option, Some, None, ◌==◌, nat_eq, ◌⊎◌, ◌↔◌, if◌then◌else◌}
 use Rattle.std.specs.List.{list_any, cons_option, AllByRecursion}
 use Rattle.zk_tables.specs.declared.tokens.Token.{Token}
 
@@ -86,4 +87,5 @@ TokensAreWords = (separators text : List ℕ) → AreTokens separators text (tok
 
 -- a text has one list of words
 abbrev pub TokensAreDetermined : Type 0
-TokensAreDetermined = (separators text : List ℕ) (ts us : List Token) → AreTokens separators text ts → AreTokens separators text us → ts ≡ us
+TokensAreDetermined = (separators text : List ℕ) (ts us : List Token) → AreTokens separators text ts
+    → AreTokens separators text us → ts ≡ us

@@ -1,6 +1,7 @@
 -- Taking an object out of the tree, and putting it in (Standard, sections 12.3 and 15, remove_obj and
 -- insert_obj).
-use Rattle.std.specs.Prelude.{◌≡◌, ◌≢◌, ℕ, List, [], ◌∷◌, Option, Some, None, Result, Ok, Err, ◌==◌, ◌||◌, if◌then◌else◌}
+use Rattle.std.specs.Prelude.{◌≡◌, ◌≢◌, ℕ, List, [], ◌∷◌, Option, Some, None, Result, Ok, Err, ◌==◌, ◌||◌}
+use Rattle.std.specs.Prelude.{if◌then◌else◌}
 use Rattle.zk_mem.specs.declared.fault.Fault.{Fault}
 use Rattle.zk_mem.specs.declared.fault.Fault.TheVariants.{BadObject, BadTree}
 use Rattle.zk_mem.specs.Results.{◌>>=◌}
@@ -62,7 +63,8 @@ inserted m o d =
 -- the chain of the parent's children decides what is removed; one that repeats an object or meets a bad
 -- one refuses
 pub record IsRemoval (m : MemoryMap) (o parent : ℕ) : Type 0 where
-  pub chain : (xs : List ℕ) → IsChain m parent xs → removed m o ≡ (naming_in (child_of parent) xs o >>= λ place. unlinked m place o)
+  pub chain : (xs : List ℕ) → IsChain m parent xs
+      → removed m o ≡ (naming_in (child_of parent) xs o >>= λ place. unlinked m place o)
   pub repeats : Repeats m parent → removed m o ≡ Err BadTree
   pub meets_bad : MeetsBad m parent → removed m o ≡ Err BadObject
 

@@ -2,7 +2,10 @@
 
 ghost use Rattle.std.specs.Prelude.{◌≡◌, ◌≤◌, ◌<◌, ◌+◌, ◌*◌, IfOk, true, length, get_or, ℕ};
 ghost use Rattle.zk_mem.specs.Map.{readable_end};
-ghost use Rattle.zk_tables.specs.Dictionaries.{key_length, magnitude, dictionary_byte, dictionary_word, dictionary_by, dictionary_at, IsDictionaryOf, begins_with, is_above, do_not_fall, bytes_from, front_at, number_at, keys_from, entry_start, has_key, found_from, found_in};
+ghost use Rattle.zk_tables.specs.Dictionaries.{key_length, magnitude, dictionary_byte, dictionary_word, dictionary_by};
+ghost use Rattle.zk_tables.specs.Dictionaries.{dictionary_at, IsDictionaryOf, begins_with, is_above, do_not_fall};
+ghost use Rattle.zk_tables.specs.Dictionaries.{bytes_from, front_at, number_at, keys_from, entry_start, has_key};
+ghost use Rattle.zk_tables.specs.Dictionaries.{found_from, found_in};
 ghost use Rattle.zk_tables.specs.Halves.{LinkPlace, entry_key, halved_whole, compared_to_end, compared_by_halves};
 
 use zk_mem::fault::Fault;
@@ -103,7 +106,7 @@ fn number_of(bytes: &[u8], index: usize, version: u8) -> u64
 }
 
 /// Whether no key of so many entries of a length, from an address on, is above the one after it.
-#[tactic(auto, using(crate::proofs::Numbers::number_falls, crate::proofs::Numbers::number_goes_on, crate::proofs::Numbers::next_inside, crate::proofs::Ordering::falls_end, crate::proofs::Ordering::falls_count))]
+#[tactic(auto, using(crate::proofs::Numbers::of_keys_do_not_fall, crate::proofs::Ordering::of_keys_do_not_fall))]
 fn keys_do_not_fall(memory: &Memory, first: u32, entry_length: u8, entries: u16) -> bool
     requires room { key_length memory.now.version ≤ entry_length }
     requires inside { first + entry_length * entries ≤ readable_end memory.now }
@@ -215,7 +218,7 @@ impl Dictionary {
 
     /// The first entry, counted from 0, whose key is not below another, or the number of entries where there
     /// is none; and how many keys were compared with it, each by halves.
-    #[tactic(auto, unfolding(crate::specs::Halves::halved_whole), using(crate::proofs::Halving::halved_out, crate::proofs::Halving::halved_up, crate::proofs::Halving::halved_down, crate::proofs::Halving::halved_end, crate::proofs::Numbers::number_below, crate::proofs::Numbers::number_not_below))]
+    #[tactic(auto, unfolding(crate::proofs::Opened::in_first_not_below), using(crate::proofs::Numbers::halving))]
     fn first_not_below(&self, memory: &Memory, key: &[u8]) -> (u16, u32)
         requires stands { IsDictionaryOf memory.now self.now }
         requires key { length key.now ≡ key_length memory.now.version }
@@ -259,7 +262,7 @@ impl Dictionary {
     }
 
     /// The same, for a key of that length.
-    #[tactic(auto, using(crate::proofs::Halving::first_past, crate::proofs::Halving::first_other, crate::proofs::Halving::first_here, crate::proofs::Numbers::number_is, crate::proofs::Numbers::number_is_not))]
+    #[tactic(auto, using(crate::proofs::Halving::of_halve, crate::proofs::Numbers::numbers))]
     fn halve(&self, memory: &Memory, key: &[u8]) -> (u16, u32)
         requires stands { IsDictionaryOf memory.now self.now }
         requires key { length key.now ≡ key_length memory.now.version }
@@ -280,7 +283,7 @@ impl Dictionary {
 
     /// The address of the first entry whose first bytes are a key, or 0 where there is none: one entry after
     /// the other (Standard, section 13.5). The key has the length of one.
-    #[tactic(auto, using(crate::proofs::Finding::found_on, crate::proofs::Finding::found_here, crate::proofs::Finding::found_none, crate::proofs::Numbers::number_is, crate::proofs::Numbers::number_is_not))]
+    #[tactic(auto, using(crate::proofs::Finding::of_walk, crate::proofs::Numbers::numbers))]
     fn walk(&self, memory: &Memory, key: &[u8]) -> u16
         requires stands { IsDictionaryOf memory.now self.now }
         requires key { length key.now ≡ key_length memory.now.version }

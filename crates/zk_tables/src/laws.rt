@@ -4,9 +4,11 @@ ghost use Rattle.zk_tables.specs.Chain.{ChildrenAreChains};
 ghost use Rattle.zk_tables.specs.Links.{LinksAreWritten};
 ghost use Rattle.zk_tables.specs.Properties.{ListsDecide};
 ghost use Rattle.zk_tables.specs.Tree.{ChainsDecide};
-ghost use Rattle.zk_tables.specs.TreeLaws.{RemovalsTakeOut, RemovalsAreMade, InsertionsPutFirst, InsertionsAreMade};
+ghost use Rattle.zk_tables.specs.guards.TreeLaws.{RemovalsTakeOut, RemovalsAreMade, InsertionsPutFirst};
+ghost use Rattle.zk_tables.specs.guards.TreeLaws.{InsertionsAreMade};
 ghost use Rattle.zk_tables.specs.PropertyList.{ListsAreRead, AtMostOneList};
-ghost use Rattle.zk_tables.specs.Dictionaries.{DictionariesAreTables, ReadDictionariesStand, DictionariesAreTheirBytes, LookUpsAreFirst};
+ghost use Rattle.zk_tables.specs.Dictionaries.{DictionariesAreTables, ReadDictionariesStand, DictionariesAreTheirBytes};
+ghost use Rattle.zk_tables.specs.Dictionaries.{LookUpsAreFirst};
 ghost use Rattle.zk_tables.specs.Halves.{KeysAreInOrder, HalvesFindTheFirst};
 ghost use Rattle.zk_tables.specs.Tokens.{TokensAreWords, TokensAreDetermined};
 

@@ -53,7 +53,7 @@ fn entries_start(memory: &Memory, layout: Layout) -> u32
 
 /// Where the entry of an object begins in a layout, or `BadObject` where it has none in data.
 #[inline(always)]
-#[tactic(auto, unfolding(crate::specs::Layout::entry_of, crate::specs::Layout::is_entry, crate::specs::Layout::is_entry_in))]
+#[tactic(auto, unfolding(crate::proofs::Opened::in_entry_in))]
 pub(crate) fn entry_in(memory: &Memory, layout: Layout, object: u16) -> Result<u32, Fault>
     requires layout { layout ≡ layout_of memory.now.version }
     requires entry { 9 ≤ layout.entry_bytes }

@@ -2,7 +2,8 @@
 
 ghost use Rattle.std.specs.Prelude.{◌≡◌, ◌≤◌, ◌<◌, ◌+◌, [], ◌∷◌, Ok, Err, IfOk, MatchResult};
 ghost use Rattle.zk_tables.specs.Layout.{layout_of};
-ghost use Rattle.zk_tables.specs.Links.{address_of, number_at, number_put, link_at, link_put, write_test, write_tests, order_of, parent_of, sibling_of, child_of, walked_link};
+ghost use Rattle.zk_tables.specs.Links.{address_of, number_at, number_put, link_at, link_put, write_test, write_tests};
+ghost use Rattle.zk_tables.specs.Links.{order_of, parent_of, sibling_of, child_of, walked_link};
 
 use crate::layout::{EARLY, LATE, Layout, entry_in, layout_for};
 use std::marker::Model;

@@ -1,7 +1,8 @@
 // Property lists.
 
 ghost use Rattle.std.specs.Prelude.{◌≡◌, ◌≤◌, ◌<◌, Err, IfOk, IfSome, IsOk, MatchResult, ◌+◌};
-ghost use Rattle.zk_tables.specs.PropertyList.{EndsAt, list_byte, long_length, number_in, property_by, property_at, properties_at, found_at, first_number_at, number_after_at};
+ghost use Rattle.zk_tables.specs.PropertyList.{EndsAt, list_byte, long_length, number_in, property_by, property_at};
+ghost use Rattle.zk_tables.specs.PropertyList.{properties_at, found_at, first_number_at, number_after_at};
 
 use zk_mem::fault::Fault;
 use zk_mem::memory::Memory;
@@ -100,8 +101,8 @@ fn number_in(version: u8, first: u8) -> u8
     if version < 4 { first % 32 } else { first % 64 }
 }
 
-/// The address after the property whose first size byte stands at an address. It is found without the property, as lists
-/// are walked often.
+/// The address after the property whose first size byte stands at an address. It is found without the property, as
+/// lists are walked often.
 #[inline(always)]
 #[tactic(auto, unfolding(crate::specs::PropertyList::property_by))]
 fn end_of(memory: &Memory, version: u8, address: u32, first: u8) -> Result<u32, Fault>

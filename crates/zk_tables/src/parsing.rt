@@ -30,7 +30,7 @@ fn store_word(memory: &mut Memory, address: u32, value: u16) -> Result<(), Fault
 }
 
 /// Stores a word in a block of four bytes. An unknown word may be left out.
-#[tactic(auto, unfolding(crate::specs::Parsing::block_put), using(crate::proofs::Storing::same_here, crate::proofs::Storing::same_on))]
+#[tactic(auto, unfolding(crate::specs::Parsing::block_put), using(crate::proofs::Storing::of_put_block))]
 fn put_block(
     memory: &mut Memory,
     address: u32,
@@ -53,7 +53,7 @@ fn put_block(
 }
 
 /// Stores words in blocks, one after the other.
-#[tactic(auto, using(crate::proofs::Storing::blocks_on, crate::proofs::Storing::blocks_fault, crate::proofs::Storing::blocks_end, crate::proofs::Storing::same_here, crate::proofs::Storing::same_on))]
+#[tactic(auto, using(crate::proofs::Storing::of_put_blocks))]
 fn put_blocks(
     memory: &mut Memory,
     address: u32,
@@ -83,7 +83,7 @@ fn first_words(words: &[Word], most: u8) -> &[Word]
 }
 
 /// Stores as many words in a parse buffer as its first byte allows, and in the second how many they are.
-#[tactic(auto, unfolding(crate::specs::Parsing::words_put), using(crate::proofs::Storing::words_past, crate::proofs::Storing::byte_past, crate::proofs::Storing::same_here, crate::proofs::Storing::same_on))]
+#[tactic(auto, unfolding(crate::specs::Parsing::words_put), using(crate::proofs::Storing::of_put_words))]
 fn put_words(
     memory: &mut Memory,
     parse: u32,
@@ -105,8 +105,8 @@ fn put_words(
 }
 
 /// Divides the text in a text buffer into words, looks them up in a dictionary and stores them in a parse
-/// buffer, all at byte addresses. Where `leaves_unknown` is set, the block of a word that is not in the dictionary stays
-/// as it is (Z-Machine Standards Document 1.1, sections 13.6 and 15, `tokenise`).
+/// buffer, all at byte addresses. Where `leaves_unknown` is set, the block of a word that is not in the dictionary
+/// stays as it is (Z-Machine Standards Document 1.1, sections 13.6 and 15, `tokenise`).
 ///
 /// All words are looked up before the first byte is stored. `BadAddress` where a letter of the text or the first
 /// byte of the parse buffer can't be read, `BadAddress` or `ReadOnly` for the first byte or word that can't be

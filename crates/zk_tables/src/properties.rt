@@ -2,7 +2,9 @@
 
 ghost use Rattle.std.specs.Prelude.{◌≡◌, ◌≢◌, ◌≤◌, ◌<◌, Ok, Err, IfOk, IfSome, IsOk, MatchResult, OnOk};
 ghost use Rattle.zk_tables.specs.Layout.{entries, entry_of, layout_of};
-ghost use Rattle.zk_tables.specs.Properties.{HasShortList, table_of, list_of, properties_of, property_of, default_of, value_in, value_put_in, property_value, property_address_of, next_property_of, property_put, length_by, property_length_of, name_of};
+ghost use Rattle.zk_tables.specs.Properties.{HasShortList, table_of, list_of, properties_of, property_of, default_of};
+ghost use Rattle.zk_tables.specs.Properties.{value_in, value_put_in, property_value, property_address_of};
+ghost use Rattle.zk_tables.specs.Properties.{next_property_of, property_put, length_by, property_length_of, name_of};
 
 use crate::layout::{EARLY, LATE, Layout, count_entries, entry, entry_in, layout_for};
 use crate::lists::{
@@ -38,8 +40,8 @@ fn table_in(memory: &Memory, layout: Layout, object: u16) -> Result<u16, Fault>
     memory.word(entry + layout.attribute_bytes as u32 + 3 * layout.link_bytes as u32)
 }
 
-/// The byte address of the property table of an object (Standard, section 12.4), or `BadObject` where it has no entry in
-/// data.
+/// The byte address of the property table of an object (Standard, section 12.4), or `BadObject` where it has no entry
+/// in data.
 #[inline(always)]
 #[tactic(auto, unfolding(crate::specs::Layout::layout_of))]
 pub fn table_address(memory: &Memory, object: u16) -> Result<u16, Fault>
@@ -177,7 +179,7 @@ pub fn property_address(memory: &Memory, object: u16, number: u16) -> Result<u16
 ///
 /// `BadObject` where the object has no entry in data. `BadProperty` where its property list, or the
 /// first byte of its property table, does not lie in data, and where it does not have the property.
-#[tactic(auto, unfolding(crate::specs::Properties::next_property_of), using(crate::proofs::ShortLists::first_short, crate::proofs::ShortLists::next_short))]
+#[tactic(auto, unfolding(crate::proofs::Opened::in_next_property), using(crate::proofs::ShortLists::of_next_property))]
 pub fn next_property(memory: &Memory, object: u16, number: u16) -> Result<u16, Fault>
     ensures value { result ≡ next_property_of memory.now object number }
     ensures walked { OnOk result (object ≢ 0 → HasShortList memory.now object) }

@@ -31,7 +31,7 @@ pub(crate) fn is_of_word(separators: &[u8], code: u8) -> bool
 }
 
 /// How many letters stand at a position of a text.
-#[tactic(auto, using(crate::proofs::Dividing::run_on, crate::proofs::Dividing::run_stops, crate::proofs::Dividing::run_ends))]
+#[tactic(auto, using(crate::proofs::Dividing::of_run_length))]
 fn run_length(separators: &[u8], text: &[u8], position: usize) -> usize
     requires { position ≤ length text.now }
     ensures value { result ≡ run separators.now (drop position text.now) }

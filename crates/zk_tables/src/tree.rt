@@ -44,8 +44,8 @@ pub fn child(memory: &Memory, object: u16) -> Result<u16, Fault>
 
 /// How many children an object has, in a chain that comes to an end (Standard, section 12.5). Object 0 has none.
 ///
-/// `BadObject` where the object, or one that the chain meets, has no entry in data, `BadTree` where the chain repeats an
-/// object.
+/// `BadObject` where the object, or one that the chain meets, has no entry in data, `BadTree` where the chain repeats
+/// an object.
 #[tactic(auto, unfolding(crate::specs::Chain::children_of))]
 pub fn chain(memory: &Memory, object: u16, links: &mut WalkCount) -> Result<u16, Fault>
     requires { links.old ≤ 4000000000 }

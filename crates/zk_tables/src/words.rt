@@ -2,7 +2,8 @@
 
 ghost use Rattle.std.specs.Prelude.{◌≡◌, ◌≤◌, ◌<◌, ◌+◌, ◌++◌, IfSome, MatchResult, length, Ok, Err};
 ghost use Rattle.zk_tables.specs.Dictionaries.{IsDictionaryOf, separators_of};
-ghost use Rattle.zk_tables.specs.Parsing.{letters_counted, letters_to_zero, letters_start, letters_of, word_in, words_for, words_of};
+ghost use Rattle.zk_tables.specs.Parsing.{letters_counted, letters_to_zero, letters_start, letters_of, word_in};
+ghost use Rattle.zk_tables.specs.Parsing.{words_for, words_of};
 
 use crate::dictionary::Dictionary;
 use crate::tokens::{Token, is_of_word, token_at};
@@ -22,7 +23,7 @@ pub struct Word {
 }
 
 /// So many letters from an address on.
-#[tactic(auto, using(crate::proofs::Dividing::after_none, crate::proofs::Dividing::counted_on, crate::proofs::Dividing::counted_faults, crate::proofs::Dividing::counted_ends))]
+#[tactic(auto, using(crate::proofs::Dividing::of_read_counted))]
 fn read_counted(memory: &Memory, address: u32, count: u8) -> Result<ArrayVec<u8, 255>, Fault>
     requires { address < 70000 }
     ensures { MatchResult result (λ v. letters_counted memory.now address count ≡ Ok v.items)
@@ -39,7 +40,7 @@ fn read_counted(memory: &Memory, address: u32, count: u8) -> Result<ArrayVec<u8,
 }
 
 /// The letters from an address on, up to a zero or 254 of them.
-#[tactic(auto, using(crate::proofs::Dividing::after_none, crate::proofs::Dividing::zero_on, crate::proofs::Dividing::zero_here, crate::proofs::Dividing::zero_faults, crate::proofs::Dividing::zero_ends))]
+#[tactic(auto, using(crate::proofs::Dividing::of_read_to_zero))]
 fn read_to_zero(memory: &Memory, address: u32) -> Result<ArrayVec<u8, 255>, Fault>
     requires { address < 70000 }
     ensures { MatchResult result (λ v. letters_to_zero memory.now address 254 ≡ Ok v.items)
@@ -73,7 +74,7 @@ pub(crate) fn read_letters(memory: &Memory, text: u32) -> Result<ArrayVec<u8, 25
 }
 
 /// The separators of a dictionary.
-#[tactic(auto, unfolding(crate::specs::Dictionaries::separators_of), using(crate::proofs::Dividing::separators_on, crate::proofs::Dividing::separators_end, crate::proofs::Dividing::separator_there, crate::proofs::Finding::dictionary_inside))]
+#[tactic(auto, unfolding(crate::proofs::Opened::in_read_separators), using(crate::proofs::Dividing::separators_read))]
 fn read_separators(memory: &Memory, dictionary: &Dictionary) -> ArrayVec<u8, 255>
     requires { IsDictionaryOf memory.now dictionary.now }
     ensures { result.items ≡ separators_of memory.now dictionary.now }
@@ -126,7 +127,7 @@ fn put_word(
 }
 
 /// The words of a text, in a dictionary.
-#[tactic(auto, using(crate::proofs::Dividing::words_all, crate::proofs::Dividing::words_on, crate::proofs::Dividing::words_end))]
+#[tactic(auto, using(crate::proofs::Dividing::of_find_words))]
 pub(crate) fn find_words(
     memory: &Memory,
     dictionary: &Dictionary,

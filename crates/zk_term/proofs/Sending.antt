@@ -1,5 +1,6 @@
 -- What a device takes of bytes that wait, one text after another.
-use Rattle.std.proofs.Common.{◌≡◌, ◌∙◌, ℕ, List, [], ◌++◌, Option, true, false, append_assoc, append-nil, sym, refl, ap, subst}
+use Rattle.std.proofs.Common.{◌≡◌, ◌∙◌, ℕ, List, [], ◌++◌, Option, true, false, append_assoc, append-nil, sym, refl, ap}
+use Rattle.std.proofs.Common.{subst}
 use Rattle.std.proofs.KnownBytes.{Appends-nil}
 use Rattle.std.specs.Io.KnownBytes.{Appends}
 use Rattle.std.specs.Prelude.{encode_utf8_all}
@@ -18,7 +19,8 @@ sends_past a b s e f same = record {
 }
 
 -- the first of the bytes were taken, and the others wait
-pub sends_on : (a b : Sender) (s : List ℕ) → a.failed ≡ false → PassedOn a.taken b.taken (a.waiting ++ encode_utf8_all s) b.waiting → Sends a b s
+pub sends_on : (a b : Sender) (s : List ℕ) → a.failed ≡ false
+    → PassedOn a.taken b.taken (a.waiting ++ encode_utf8_all s) b.waiting → Sends a b s
 unfolding Sends
 sends_on a b s e h = record {
   part = h.part;
@@ -30,7 +32,8 @@ sends_on a b s e h = record {
 }
 
 -- a write has failed on the way
-pub sends_part : (a b : Sender) (s : List ℕ) → a.failed ≡ false → b.failed ≡ true → TookPart a.taken b.taken a.waiting → Sends a b s
+pub sends_part : (a b : Sender) (s : List ℕ) → a.failed ≡ false → b.failed ≡ true
+    → TookPart a.taken b.taken a.waiting → Sends a b s
 unfolding Sends
 sends_part a b s e f h = record {
   part = h.part;
@@ -54,7 +57,8 @@ sends_all a b e h none = record {
 }
 
 -- nothing was to be sent
-pub sends_none : (a b : Sender) → (b.failed ≡ false → a.failed ≡ false) → b.taken ≡ a.taken → b.waiting ≡ a.waiting → Sends a b []
+pub sends_none : (a b : Sender) → (b.failed ≡ false → a.failed ≡ false) → b.taken ≡ a.taken
+    → b.waiting ≡ a.waiting → Sends a b []
 unfolding Sends
 sends_none a b e same waits = record {
   part = [];
@@ -66,7 +70,8 @@ sends_none a b e same waits = record {
 }
 
 -- what was sent is shown where nothing waits at first, nor at last while no write has failed
-pub sends_shows : (a b : Sender) (s : List ℕ) → a.waiting ≡ [] → (b.failed ≡ false → b.waiting ≡ []) → Sends a b s → Shows (record { taken = a.taken; failed = a.failed }) (record { taken = b.taken; failed = b.failed }) s
+pub sends_shows : (a b : Sender) (s : List ℕ) → a.waiting ≡ [] → (b.failed ≡ false → b.waiting ≡ []) → Sends a b s
+    → Shows (record { taken = a.taken; failed = a.failed }) (record { taken = b.taken; failed = b.failed }) s
 unfolding Sends Shows
 sends_shows a b s first last h = record {
   part = h.part;

@@ -1,5 +1,6 @@
 -- What a device takes, one text after another.
-use Rattle.std.proofs.Common.{◌≡◌, ◌∙◌, ℕ, List, [], ◌++◌, Option, Bool, true, false, append_assoc, append-nil, sym, refl, ap, subst}
+use Rattle.std.proofs.Common.{◌≡◌, ◌∙◌, ℕ, List, [], ◌++◌, Option, Bool, true, false, append_assoc, append-nil, sym}
+use Rattle.std.proofs.Common.{refl, ap, subst}
 use Rattle.std.proofs.lemmas.Str.{encodes-append}
 use Rattle.std.proofs.KnownBytes.{Appends-nil, Appends-trans}
 use Rattle.std.specs.Io.KnownBytes.{Appends}
@@ -63,7 +64,8 @@ shows_past a b s e f same = record {
 }
 
 -- all was written
-pub shows_all : (a b : Device) (s : List ℕ) → a.failed ≡ false → Appends a.taken b.taken (encode_utf8_all s) → Shows a b s
+pub shows_all : (a b : Device) (s : List ℕ) → a.failed ≡ false → Appends a.taken b.taken (encode_utf8_all s)
+    → Shows a b s
 unfolding Shows
 shows_all a b s e h = record {
   part = encode_utf8_all s;
@@ -75,7 +77,8 @@ shows_all a b s e h = record {
 }
 
 -- a write has failed in between
-pub shows_part : (a b : Device) (s : List ℕ) → a.failed ≡ false → b.failed ≡ true → TookPart a.taken b.taken (encode_utf8_all s) → Shows a b s
+pub shows_part : (a b : Device) (s : List ℕ) → a.failed ≡ false → b.failed ≡ true
+    → TookPart a.taken b.taken (encode_utf8_all s) → Shows a b s
 unfolding Shows
 shows_part a b s e f h = record {
   part = h.part;

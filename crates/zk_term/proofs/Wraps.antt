@@ -1,13 +1,18 @@
 -- What goes out of an open line at each byte.
-use Rattle.std.proofs.Common.{◌≡◌, ◌∙◌, ◌≤◌, ◌<◌, ◌⊎◌, inl, inr, ℕ, ◌+◌, ◌-◌, ◌==◌, Bool, true, false, cond, List, [], ◌∷◌, ◌++◌, drop, length, map, append_assoc, append-nil, refl, sym, ap, subst, arith, length-append}
+use Rattle.std.proofs.Common.{◌≡◌, ◌∙◌, ◌≤◌, ◌<◌, ◌⊎◌, inl, inr, ℕ, ◌+◌, ◌-◌, ◌==◌, Bool, true, false, cond, List, []}
+use Rattle.std.proofs.Common.{◌∷◌, ◌++◌, drop, length, map, append_assoc, append-nil, refl, sym, ap, subst, arith}
+use Rattle.std.proofs.Common.{length-append}
 use Rattle.std.proofs.lemmas.Bool.Decides.{nat_tests}
 use Rattle.std.proofs.lemmas.List.Sums.{sum_by-append}
 use Rattle.std.specs.List.{join_with_byte, slice_split}
-use Rattle.zk_term.specs.Wrapping.{is_space, begins_character, columns, fits, further_words, all_words, wrapped_line, wrapped}
+use Rattle.zk_term.specs.Wrapping.{is_space, begins_character, columns, fits, further_words, all_words, wrapped_line}
+use Rattle.zk_term.specs.Wrapping.{wrapped}
 use Rattle.zk_term.specs.declared.open_line.LineKind.{LineKind}
 use Rattle.zk_term.specs.declared.open_line.LineKind.TheVariants.{Empty, Row, Words}
 use Rattle.zk_term.specs.Lines.{is_new_line}
-use Rattle.zk_term.specs.OpenLines.{BreaksLine, EndsLine, GoesOn, HasNoSpace, HoldsBy, HoldsOn, IsFullFor, IsHeld, IsOpen, rest_by, rest_of_line, rest_of_text, rest_of_words, Takes, TakesAmongWords, TakesInLine, WordsGoOn}
+use Rattle.zk_term.specs.OpenLines.{BreaksLine, EndsLine, GoesOn, HasNoSpace, HoldsBy, HoldsOn, IsFullFor, IsHeld}
+use Rattle.zk_term.specs.OpenLines.{IsOpen, rest_by, rest_of_line, rest_of_text, rest_of_words, Takes, TakesAmongWords}
+use Rattle.zk_term.specs.OpenLines.{TakesInLine, WordsGoOn}
 use Rattle.zk_term.specs.declared.open_line.Line.{Line}
 
 -- ---- parts of a list
@@ -27,11 +32,13 @@ parts p [] = record { first = []; more = []; are = refl }
 parts p (b ∷ bytes) = parts_by p b bytes _ refl (parts p bytes)
 
 -- a word and what comes after it
-pub word_goes_on : (word rest : List ℕ) → HasNoSpace word → (h : Parts is_space rest) → slice_split is_space (word ++ rest) ≡ (word ++ h.first) ∷ h.more
+pub word_goes_on : (word rest : List ℕ) → HasNoSpace word → (h : Parts is_space rest)
+    → slice_split is_space (word ++ rest) ≡ (word ++ h.first) ∷ h.more
 word_goes_on [] rest h p = p.are
 word_goes_on (b ∷ word) rest h p = rw (word_goes_on word rest h.1 p, h.0) refl
 
-word_ends : (word rest : List ℕ) → HasNoSpace word → slice_split is_space (word ++ 32 ∷ rest) ≡ word ∷ slice_split is_space rest
+word_ends : (word rest : List ℕ) → HasNoSpace word → slice_split is_space (word ++ 32 ∷ rest) ≡ word
+    ∷ slice_split is_space rest
 word_ends [] rest h = refl
 word_ends (b ∷ word) rest h = rw (word_ends word rest h.1, h.0) refl
 
@@ -52,73 +59,103 @@ columns_space s = columns_both (32 ∷ []) s
 
 -- ---- words
 
-word_that_fits : (width room room' : ℕ) (word : List ℕ) (words : List (List ℕ)) → columns word < room → length word < 1024 → room' + (1 + columns word) ≡ room → further_words width room (word ∷ words) ≡ (32 ∷ word) ++ further_words width room' words
+word_that_fits : (width room room' : ℕ) (word : List ℕ) (words : List (List ℕ)) → columns word < room
+    → length word < 1024 → room' + (1 + columns word) ≡ room → further_words width room (word ∷ words) ≡ (32 ∷ word)
+    ++ further_words width room' words
 unfolding further_words
 word_that_fits width room room' word words some short e =
     let test : fits room word ≡ true = grind (arith, nat_tests) in
     let same : room - (1 + columns word) ≡ room' = omega arith in
     rw (test, same) refl
 
-word_too_long : (width room : ℕ) (word : List ℕ) (words : List (List ℕ)) → (room ≤ columns word) ⊎ (1024 ≤ length word) → further_words width room (word ∷ words) ≡ (10 ∷ word) ++ further_words width (width - columns word) words
+word_too_long : (width room : ℕ) (word : List ℕ) (words : List (List ℕ)) → (room ≤ columns word)
+    ⊎ (1024 ≤ length word) → further_words width room (word ∷ words) ≡ (10 ∷ word)
+    ++ further_words width (width - columns word) words
 unfolding further_words
-word_too_long width room word words (inl h) = let test : fits room word ≡ false = grind (arith, nat_tests) in rw test refl
-word_too_long width room word words (inr h) = let test : fits room word ≡ false = grind (arith, nat_tests) in rw test refl
+word_too_long width room word words (inl h) =
+    let test : fits room word ≡ false = grind (arith, nat_tests) in rw test refl
+word_too_long width room word words (inr h) =
+    let test : fits room word ≡ false = grind (arith, nat_tests) in rw test refl
 
 -- the word that is held back goes out before a space
-out_at_a_space : (width room : ℕ) (word rest : List ℕ) → HasNoSpace word → length word < 1024 → rest_of_words width room (32 ∷ word) (32 ∷ rest) ≡ (32 ∷ word) ++ rest_of_words width room [] (32 ∷ rest)
+out_at_a_space : (width room : ℕ) (word rest : List ℕ) → HasNoSpace word → length word < 1024
+    → rest_of_words width room (32 ∷ word) (32 ∷ rest) ≡ (32 ∷ word) ++ rest_of_words width room [] (32 ∷ rest)
 out_at_a_space width room word rest plain short =
     ap (further_words width (room + columns (32 ∷ word) - 0)) (word_ends word rest plain)
-    ∙ word_that_fits width (room + columns (32 ∷ word) - 0) (room + 0 - 0) word (slice_split is_space rest) (omega (arith, columns_space word)) short (omega (arith, columns_space word))
+    ∙ word_that_fits width (room + columns (32 ∷ word) - 0) (room + 0 - 0) word (slice_split is_space rest)
+    (omega (arith, columns_space word)) short (omega (arith, columns_space word))
 
-pub out_before_a_space : (width room : ℕ) (held rest : List ℕ) → IsHeld held → rest_of_words width room held (32 ∷ rest) ≡ held ++ rest_of_words width room [] (32 ∷ rest)
+pub out_before_a_space : (width room : ℕ) (held rest : List ℕ) → IsHeld held
+    → rest_of_words width room held (32 ∷ rest) ≡ held ++ rest_of_words width room [] (32 ∷ rest)
 out_before_a_space width room [] rest h = refl
 out_before_a_space width room (b ∷ word) rest h = rw h.0 (out_at_a_space width room word rest h.1 h.2)
 
 -- a space for which there is room
-pub space_kept : (width room : ℕ) (rest : List ℕ) → 1 ≤ room → rest_of_words width room [] (32 ∷ rest) ≡ rest_of_words width (room - 1) (32 ∷ []) rest
-space_kept width room rest some = let e : room + 0 ≡ (room - 1) + 1 = omega arith in ap (λ r. all_words width r (slice_split is_space (32 ∷ rest))) e
+pub space_kept : (width room : ℕ) (rest : List ℕ) → 1 ≤ room → rest_of_words width room []
+    (32 ∷ rest) ≡ rest_of_words width (room - 1) (32 ∷ []) rest
+space_kept width room rest some = let e : room + 0 ≡ (room - 1) + 1 = omega arith in
+    ap (λ r. all_words width r (slice_split is_space (32 ∷ rest))) e
 
 -- one for which there is none
-pub space_broken : (width room : ℕ) (rest : List ℕ) → room ≡ 0 → rest_of_words width room [] (32 ∷ rest) ≡ (10 ∷ []) ++ rest_of_words width width [] rest
+pub space_broken : (width room : ℕ) (rest : List ℕ) → room ≡ 0
+    → rest_of_words width room [] (32 ∷ rest) ≡ (10 ∷ []) ++ rest_of_words width width [] rest
 space_broken width room rest none =
     let p = parts is_space rest in
     let same : width - columns p.first ≡ (width + 0) - columns p.first = omega arith in
-    rw p.are (word_too_long width (room + 0 - 0) p.first p.more (inl (omega arith)) ∙ ap (λ r. 10 ∷ (p.first ++ further_words width r p.more)) same)
+    rw p.are (word_too_long width (room + 0 - 0) p.first p.more (inl (omega arith))
+    ∙ ap (λ r. 10 ∷ (p.first ++ further_words width r p.more)) same)
 
 -- a byte of a word that is not held back
-pub letter_out : (width room b : ℕ) (rest : List ℕ) → is_space b ≡ false → rest_of_words width room [] (b ∷ rest) ≡ (b ∷ []) ++ rest_of_words width (room - columns (b ∷ [])) [] rest
+pub letter_out : (width room b : ℕ) (rest : List ℕ) → is_space b ≡ false
+    → rest_of_words width room [] (b ∷ rest) ≡ (b ∷ []) ++ rest_of_words width (room - columns (b ∷ [])) [] rest
 letter_out width room b rest plain =
     let p = parts is_space rest in
-    let same : (room + 0) - columns (b ∷ p.first) ≡ (room - columns (b ∷ []) + 0) - columns p.first = omega (arith, columns_first b p.first) in
+    let same : (room + 0) - columns (b ∷ p.first) ≡ (room - columns (b ∷ []) + 0) - columns
+    p.first = omega (arith, columns_first b p.first) in
     rw (plain, p.are) (ap (λ r. b ∷ (p.first ++ further_words width r p.more)) same)
 
 -- a byte of a word that still fits
-pub letter_held : (width room b : ℕ) (held rest : List ℕ) → columns (b ∷ []) ≤ room → rest_of_words width room held (b ∷ rest) ≡ rest_of_words width (room - columns (b ∷ [])) (held ++ b ∷ []) rest
+pub letter_held : (width room b : ℕ) (held rest : List ℕ) → columns (b ∷ []) ≤ room
+    → rest_of_words width room held (b ∷ rest) ≡ rest_of_words width (room - columns (b ∷ [])) (held ++ b ∷ []) rest
 letter_held width room b held rest some =
-    let same : room + columns held ≡ (room - columns (b ∷ [])) + columns (held ++ b ∷ []) = omega (arith, columns_both held (b ∷ [])) in
+    let same : room + columns held ≡ (room - columns (b ∷ [])) + columns
+    (held ++ b ∷ []) = omega (arith, columns_both held (b ∷ [])) in
     ap (λ r. all_words width r (slice_split is_space (held ++ b ∷ rest))) same
-    ∙ ap (λ s. all_words width ((room - columns (b ∷ [])) + columns (held ++ b ∷ [])) (slice_split is_space s)) (sym (append_assoc held (b ∷ []) rest))
+    ∙ ap (λ s. all_words width ((room - columns (b ∷ [])) + columns (held ++ b ∷ [])) (slice_split is_space s))
+    (sym (append_assoc held (b ∷ []) rest))
 
 -- a byte with which a word does not fit any more
-letter_breaks_word : (width room b : ℕ) (word rest : List ℕ) → HasNoSpace word → is_space b ≡ false → (room < columns (b ∷ [])) ⊎ (1023 ≤ length word) → rest_of_words width room (32 ∷ word) (b ∷ rest) ≡ (10 ∷ (word ++ b ∷ [])) ++ rest_of_words width (width - (columns word + columns (b ∷ []))) [] rest
+letter_breaks_word : (width room b : ℕ) (word rest : List ℕ) → HasNoSpace word → is_space b ≡ false
+    → (room < columns (b ∷ [])) ⊎ (1023 ≤ length word) → rest_of_words width room (32 ∷ word)
+    (b ∷ rest) ≡ (10 ∷ (word ++ b ∷ [])) ++ rest_of_words width (width - (columns word + columns (b ∷ []))) [] rest
 letter_breaks_word width room b word rest plain letter full =
     let p = parts is_space rest in
     let q : Parts is_space (b ∷ rest) = record { first = b ∷ p.first; more = p.more; are = rw (letter, p.are) refl } in
-    let whole : columns (word ++ b ∷ p.first) ≡ columns word + (columns (b ∷ []) + columns p.first) = columns_both word (b ∷ p.first) ∙ ap (λ n. columns word + n) (columns_first b p.first) in
+    let whole : columns (word ++ b ∷ p.first) ≡ columns word + (columns (b ∷ []) + columns p.first) = columns_both
+    word (b ∷ p.first) ∙ ap (λ n. columns word + n) (columns_first b p.first) in
     let front = columns_space word in
-    let long : (room + columns (32 ∷ word) - 0 ≤ columns (word ++ b ∷ p.first)) ⊎ (1024 ≤ length (word ++ b ∷ p.first)) =
-    elim full [ inl h ↦ inl (omega (arith, whole, front)) | inr h ↦ inr (omega (arith, length-append word (b ∷ p.first))) ] in
-    let same : width - columns (word ++ b ∷ p.first) ≡ (width - (columns word + columns (b ∷ [])) + 0) - columns p.first = omega (arith, whole) in
+    let long : (room + columns (32 ∷ word) - 0 ≤ columns (word ++ b ∷ p.first))
+    ⊎ (1024 ≤ length (word ++ b ∷ p.first)) =
+    elim full [
+      | inl h ↦ inl (omega (arith, whole, front))
+      | inr h ↦ inr (omega (arith, length-append word (b ∷ p.first)))
+    ] in
+    let same : width - columns (word ++ b ∷ p.first) ≡ (width - (columns word + columns (b ∷ [])) + 0) - columns
+    p.first = omega (arith, whole) in
     ap (further_words width (room + columns (32 ∷ word) - 0)) (word_goes_on word (b ∷ rest) plain q)
     ∙ word_too_long width (room + columns (32 ∷ word) - 0) (word ++ b ∷ p.first) p.more long
     ∙ ap (λ r. 10 ∷ ((word ++ b ∷ p.first) ++ further_words width r p.more)) same
-    ∙ ap (λ s. 10 ∷ (s ++ further_words width ((width - (columns word + columns (b ∷ [])) + 0) - columns p.first) p.more)) (sym (append_assoc word (b ∷ []) p.first))
-    ∙ ap (λ s. 10 ∷ s) (append_assoc (word ++ b ∷ []) p.first (further_words width ((width - (columns word + columns (b ∷ [])) + 0) - columns p.first) p.more))
+    ∙ ap (λ s. 10 ∷ (s ++ further_words width ((width - (columns word + columns (b ∷ [])) + 0) - columns p.first)
+    p.more)) (sym (append_assoc word (b ∷ []) p.first))
+    ∙ ap (λ s. 10 ∷ s) (append_assoc (word ++ b ∷ []) p.first
+    (further_words width ((width - (columns word + columns (b ∷ [])) + 0) - columns p.first) p.more))
     ∙ rw p.are refl
 
 -- ---- steps among words
 
-pub space_breaks : (old new : Line) → old.room ≡ 0 → new.width ≡ old.width → new.kind ≡ old.kind → new.room ≡ old.width → new.held.items ≡ [] → IsHeld old.held.items → WordsGoOn old new 32 (old.held.items ++ 10 ∷ [])
+pub space_breaks : (old new : Line) → old.room ≡ 0 → new.width ≡ old.width → new.kind ≡ old.kind
+    → new.room ≡ old.width → new.held.items ≡ [] → IsHeld old.held.items
+    → WordsGoOn old new 32 (old.held.items ++ 10 ∷ [])
 space_breaks old new none width kind room held h = record {
   width = width;
   kind = kind;
@@ -129,7 +166,8 @@ space_breaks old new none width kind room held h = record {
       ∙ sym (append_assoc old.held.items (10 ∷ []) (rest_of_words old.width old.width [] rest)));
 }
 
-pub space_is_held : (old new : Line) → 1 ≤ old.room → new.width ≡ old.width → new.kind ≡ old.kind → new.room ≡ old.room - 1 → new.held.items ≡ 32 ∷ [] → IsHeld old.held.items → WordsGoOn old new 32 old.held.items
+pub space_is_held : (old new : Line) → 1 ≤ old.room → new.width ≡ old.width → new.kind ≡ old.kind
+    → new.room ≡ old.room - 1 → new.held.items ≡ 32 ∷ [] → IsHeld old.held.items → WordsGoOn old new 32 old.held.items
 space_is_held old new some width kind room held h = record {
   width = width;
   kind = kind;
@@ -143,11 +181,13 @@ plain_on : (word : List ℕ) (b : ℕ) → HasNoSpace word → is_space b ≡ fa
 plain_on [] b h e = (e, tt)
 plain_on (c ∷ word) b h e = (h.0, plain_on word b h.1 e)
 
-held_on : (held : List ℕ) (b : ℕ) → 0 < length held → length held < 1024 → IsHeld held → is_space b ≡ false → IsHeld (held ++ b ∷ [])
+held_on : (held : List ℕ) (b : ℕ) → 0 < length held → length held < 1024 → IsHeld held → is_space b ≡ false
+    → IsHeld (held ++ b ∷ [])
 held_on [] b some short h e = absurd (omega arith)
 held_on (c ∷ word) b some short h e = (h.0, plain_on word b h.1 e, omega (arith, length-append word (b ∷ [])))
 
-pub letter_goes_out : (old new : Line) (b : ℕ) → old.held.items ≡ [] → new.width ≡ old.width → new.kind ≡ old.kind → new.room ≡ old.room - columns (b ∷ []) → new.held.items ≡ [] → is_space b ≡ false → WordsGoOn old new b (b ∷ [])
+pub letter_goes_out : (old new : Line) (b : ℕ) → old.held.items ≡ [] → new.width ≡ old.width → new.kind ≡ old.kind
+    → new.room ≡ old.room - columns (b ∷ []) → new.held.items ≡ [] → is_space b ≡ false → WordsGoOn old new b (b ∷ [])
 letter_goes_out old new b none width kind room held e = record {
   width = width;
   kind = kind;
@@ -155,7 +195,8 @@ letter_goes_out old new b none width kind room held e = record {
   rest = λ rest. rw (width, room, held, none) (letter_out old.width old.room b rest e);
 }
 
-pub letter_is_held : (old new : Line) (b : ℕ) → 0 < length old.held.items → HoldsOn old new b → is_space b ≡ false → IsHeld old.held.items → WordsGoOn old new b []
+pub letter_is_held : (old new : Line) (b : ℕ) → 0 < length old.held.items → HoldsOn old new b → is_space b ≡ false
+    → IsHeld old.held.items → WordsGoOn old new b []
 letter_is_held old new b some on e h = record {
   width = on.width;
   kind = on.kind;
@@ -163,13 +204,20 @@ letter_is_held old new b some on e h = record {
   rest = λ rest. rw (on.width, on.left, on.held) (letter_held old.width old.room b old.held.items rest on.room);
 }
 
-breaks_by : (held : List ℕ) (width room b : ℕ) (rest : List ℕ) → 0 < length held → IsHeld held → is_space b ≡ false → (room < columns (b ∷ [])) ⊎ (1024 ≤ length held) → rest_of_words width room held (b ∷ rest) ≡ (10 ∷ (drop 1 held ++ b ∷ [])) ++ rest_of_words width (width - (columns (drop 1 held) + columns (b ∷ []))) [] rest
+breaks_by : (held : List ℕ) (width room b : ℕ) (rest : List ℕ) → 0 < length held → IsHeld held
+    → is_space b ≡ false → (room < columns (b ∷ [])) ⊎ (1024 ≤ length held)
+    → rest_of_words width room held (b ∷ rest) ≡ (10 ∷ (drop 1 held ++ b ∷ [])) ++ rest_of_words width
+    (width - (columns (drop 1 held) + columns (b ∷ []))) [] rest
 breaks_by [] width room b rest some h e full = absurd (omega arith)
 breaks_by (c ∷ word) width room b rest some h e full =
-    let long : (room < columns (b ∷ [])) ⊎ (1023 ≤ length word) = elim full [ inl k ↦ inl k | inr k ↦ inr (omega arith) ] in
+    let long : (room < columns (b ∷ [])) ⊎ (1023 ≤ length word) = elim full
+    [ inl k ↦ inl k | inr k ↦ inr (omega arith) ] in
     rw h.0 (letter_breaks_word width room b word rest h.1 e long)
 
-pub letter_breaks : (old new : Line) (b : ℕ) → 0 < length old.held.items → (old.room < columns (b ∷ [])) ⊎ (1024 ≤ length old.held.items) → new.width ≡ old.width → new.kind ≡ old.kind → new.room ≡ old.width - (columns (drop 1 old.held.items) + columns (b ∷ [])) → new.held.items ≡ [] → is_space b ≡ false → IsHeld old.held.items → WordsGoOn old new b (10 ∷ (drop 1 old.held.items ++ b ∷ []))
+pub letter_breaks : (old new : Line) (b : ℕ) → 0 < length old.held.items → (old.room < columns (b ∷ []))
+    ⊎ (1024 ≤ length old.held.items) → new.width ≡ old.width → new.kind ≡ old.kind
+    → new.room ≡ old.width - (columns (drop 1 old.held.items) + columns (b ∷ [])) → new.held.items ≡ []
+    → is_space b ≡ false → IsHeld old.held.items → WordsGoOn old new b (10 ∷ (drop 1 old.held.items ++ b ∷ []))
 letter_breaks old new b some full width kind room held e h = record {
   width = width;
   kind = kind;
@@ -177,10 +225,17 @@ letter_breaks old new b some full width kind room held e h = record {
   rest = λ rest. rw (width, room, held) (breaks_by old.held.items old.width old.room b rest some h e full);
 }
 
-pub letter_breaks_line : {S : Type 0} (wrote : S → S → List ℕ → Type 0) (old mid new : Line) (a b : S) (byte : ℕ) → 0 < length old.held.items → IsFullFor old mid byte → BreaksLine wrote mid new a b byte → is_space byte ≡ false → TakesAmongWords wrote old new a b byte
+pub letter_breaks_line : {S : Type 0} (wrote : S → S → List ℕ → Type 0) (old mid new : Line) (a b : S) (byte : ℕ)
+    → 0 < length old.held.items → IsFullFor old mid byte → BreaksLine wrote mid new a b byte → is_space byte ≡ false
+    → TakesAmongWords wrote old new a b byte
 letter_breaks_line {S} wrote old mid new a b byte some full broke e =
-    let done : BreaksLine wrote old new a b byte = subst (λ (l : Line). BreaksLine wrote l new a b byte) full.same broke in
-    record { text = _; is = letter_breaks old new byte some full.full done.width done.kind done.room done.held e; given = done.wrote_all }
+    let done : BreaksLine wrote old new a b byte = subst (λ (l : Line). BreaksLine wrote l new a b byte)
+    full.same broke in
+    record {
+      text = _;
+      is = letter_breaks old new byte some full.full done.width done.kind done.room done.held e;
+      given = done.wrote_all;
+    }
 
 pub no_bytes : (s : List ℕ) → (length s == 0) ≡ true → s ≡ []
 no_bytes [] h = refl
@@ -191,12 +246,14 @@ some_bytes s h = grind (arith, nat_tests)
 
 -- ---- lines
 
-join_first : (s t : List ℕ) (lines : List (List ℕ)) → join_with_byte 10 ((s ++ t) ∷ lines) ≡ s ++ join_with_byte 10 (t ∷ lines)
+join_first : (s t : List ℕ) (lines : List (List ℕ)) → join_with_byte 10 ((s ++ t) ∷ lines) ≡ s
+    ++ join_with_byte 10 (t ∷ lines)
 join_first s t [] = refl
 join_first s t (line ∷ lines) = append_assoc s t (10 ∷ join_with_byte 10 (line ∷ lines))
 
 -- at its end a line gives out what is held back
-at_the_end : (kind : LineKind) (width room : ℕ) (held : List ℕ) → HoldsBy kind held → rest_by kind width room held [] ≡ held
+at_the_end : (kind : LineKind) (width room : ℕ) (held : List ℕ) → HoldsBy kind held
+    → rest_by kind width room held [] ≡ held
 unfolding further_words
 at_the_end Empty width room held h = sym h
 at_the_end Row width room held h = sym h
@@ -204,18 +261,24 @@ at_the_end Words width room [] h = refl
 at_the_end Words width room (b ∷ word) h =
     let words : slice_split is_space (word ++ []) ≡ word ∷ [] = rw (append-nil word) (no_space_splits word h.1) in
     rw h.0 (ap (further_words width (room + columns (32 ∷ word) - 0)) words
-    ∙ word_that_fits width (room + columns (32 ∷ word) - 0) room word [] (omega (arith, columns_space word)) h.2 (omega (arith, columns_space word))
+    ∙ word_that_fits width (room + columns (32 ∷ word) - 0) room word [] (omega (arith, columns_space word)) h.2
+    (omega (arith, columns_space word))
     ∙ append-nil (32 ∷ word))
 
-pub open_line : (shown : List ℕ → List ℕ) (line : Line) (text out : List ℕ) → ((rest : List ℕ) → shown (text ++ rest) ≡ out ++ rest_of_text line rest) → HoldsBy line.kind line.held.items → IsOpen shown line text out
+pub open_line : (shown : List ℕ → List ℕ) (line : Line) (text out : List ℕ)
+    → ((rest : List ℕ) → shown (text ++ rest) ≡ out ++ rest_of_text line rest) → HoldsBy line.kind line.held.items
+    → IsOpen shown line text out
 open_line shown line text out later held = record {
-  whole = ap shown (sym (append-nil text)) ∙ later [] ∙ ap (λ l. out ++ l) (at_the_end line.kind line.width line.room line.held.items held);
+  whole = ap shown (sym (append-nil text)) ∙ later [] ∙ ap (λ l. out ++ l)
+      (at_the_end line.kind line.width line.room line.held.items held);
   later = later;
   held = held;
 }
 
 -- bytes go out at a byte of a text that is open
-goes_on : (shown : List ℕ → List ℕ) (old new : Line) (text out more : List ℕ) (b : ℕ) → IsOpen shown old text out → HoldsBy new.kind new.held.items → ((rest : List ℕ) → rest_of_text old (b ∷ rest) ≡ more ++ rest_of_text new rest) → IsOpen shown new (text ++ b ∷ []) (out ++ more)
+goes_on : (shown : List ℕ → List ℕ) (old new : Line) (text out more : List ℕ) (b : ℕ) → IsOpen shown old text out
+    → HoldsBy new.kind new.held.items → ((rest : List ℕ) → rest_of_text old (b ∷ rest) ≡ more
+    ++ rest_of_text new rest) → IsOpen shown new (text ++ b ∷ []) (out ++ more)
 goes_on shown old new text out more b is_open held on =
     open_line shown new (text ++ b ∷ []) (out ++ more) (λ rest.
     ap shown (append_assoc text (b ∷ []) rest)
@@ -228,8 +291,10 @@ at_the_front : (line : Line) (rest : List ℕ) → line.kind ≡ Empty → rest_
 unfolding wrapped
 at_the_front line rest e = let p = parts is_new_line rest in rw (e, p.are) refl
 
-pub line_at_the_front : (line : Line) → line.kind ≡ Empty → line.held.items ≡ [] → IsOpen (wrapped line.width) line [] []
-line_at_the_front line kind none = open_line (wrapped line.width) line [] [] (λ rest. sym (at_the_front line rest kind)) (rw kind none)
+pub line_at_the_front : (line : Line) → line.kind ≡ Empty → line.held.items ≡ []
+    → IsOpen (wrapped line.width) line [] []
+line_at_the_front line kind none =
+    open_line (wrapped line.width) line [] [] (λ rest. sym (at_the_front line rest kind)) (rw kind none)
 
 holds_none : (kind : LineKind) (held : List ℕ) → held ≡ [] → HoldsBy kind held
 holds_none Empty held e = e
@@ -238,45 +303,61 @@ holds_none Words held e = rw e tt
 
 -- a line that holds nothing back goes on
 pub line_goes_by_itself : (line : Line) → line.held.items ≡ [] → IsOpen (rest_of_text line) line [] []
-line_goes_by_itself line none = open_line (rest_of_text line) line [] [] (λ rest. refl) (holds_none line.kind line.held.items none)
+line_goes_by_itself line none =
+    open_line (rest_of_text line) line [] [] (λ rest. refl) (holds_none line.kind line.held.items none)
 
-at_a_new_line : (line : Line) (rest : List ℕ) → HoldsBy line.kind line.held.items → rest_of_text line (10 ∷ rest) ≡ (line.held.items ++ 10 ∷ []) ++ wrapped line.width rest
+at_a_new_line : (line : Line) (rest : List ℕ) → HoldsBy line.kind line.held.items
+    → rest_of_text line (10 ∷ rest) ≡ (line.held.items ++ 10 ∷ []) ++ wrapped line.width rest
 unfolding wrapped
 at_a_new_line line rest h =
     let p = parts is_new_line rest in
-    rw p.are (ap (λ l. l ++ 10 ∷ join_with_byte 10 (map (wrapped_line line.width) (p.first ∷ p.more))) (at_the_end line.kind line.width line.room line.held.items h)
-    ∙ sym (append_assoc line.held.items (10 ∷ []) (join_with_byte 10 (map (wrapped_line line.width) (p.first ∷ p.more)))))
+    rw p.are (ap (λ l. l ++ 10 ∷ join_with_byte 10 (map (wrapped_line line.width) (p.first ∷ p.more)))
+    (at_the_end line.kind line.width line.room line.held.items h)
+    ∙ sym (append_assoc line.held.items (10 ∷ [])
+    (join_with_byte 10 (map (wrapped_line line.width) (p.first ∷ p.more)))))
 
-pub line_ends : {S : Type 0} (wrote : S → S → List ℕ → Type 0) (old new : Line) (a b : S) → EndsLine wrote old new a b → Takes wrote old new a b (10 ∷ [])
+pub line_ends : {S : Type 0} (wrote : S → S → List ℕ → Type 0) (old new : Line) (a b : S)
+    → EndsLine wrote old new a b → Takes wrote old new a b (10 ∷ [])
 line_ends {S} wrote old new a b h = record {
   text = old.held.items ++ 10 ∷ [];
-  is = λ shown text out is_open. goes_on shown old new text out (old.held.items ++ 10 ∷ []) 10 is_open (rw h.kind h.held) (λ rest.
-      at_a_new_line old rest is_open.held ∙ ap (λ l. (old.held.items ++ 10 ∷ []) ++ l) (ap (λ w. wrapped w rest) (sym h.width) ∙ sym (at_the_front new rest h.kind)));
+  is = λ shown text out is_open. goes_on shown old new text out (old.held.items ++ 10 ∷ []) 10 is_open
+      (rw h.kind h.held) (λ rest.
+      at_a_new_line old rest is_open.held ∙ ap (λ l. (old.held.items ++ 10 ∷ []) ++ l)
+      (ap (λ w. wrapped w rest) (sym h.width) ∙ sym (at_the_front new rest h.kind)));
   given = h.wrote_all;
 }
 
-in_the_line : (old new : Line) (b : ℕ) (more rest : List ℕ) → is_new_line b ≡ false → GoesOn old new b more → rest_of_text old (b ∷ rest) ≡ more ++ rest_of_text new rest
+in_the_line : (old new : Line) (b : ℕ) (more rest : List ℕ) → is_new_line b ≡ false → GoesOn old new b more
+    → rest_of_text old (b ∷ rest) ≡ more ++ rest_of_text new rest
 in_the_line old new b more rest e h =
     let p = parts is_new_line rest in
     rw (e, p.are) (ap (λ l. join_with_byte 10 (l ∷ map (wrapped_line old.width) p.more)) (h.rest p.first)
     ∙ join_first more (rest_of_line new p.first) (map (wrapped_line old.width) p.more)
     ∙ ap (λ w. more ++ join_with_byte 10 (rest_of_line new p.first ∷ map (wrapped_line w) p.more)) (sym h.width))
 
-pub line_goes_on : {S : Type 0} (wrote : S → S → List ℕ → Type 0) (old new : Line) (a b : S) (byte : ℕ) → is_new_line byte ≡ false → TakesInLine wrote old new a b byte → Takes wrote old new a b (byte ∷ [])
+pub line_goes_on : {S : Type 0} (wrote : S → S → List ℕ → Type 0) (old new : Line) (a b : S) (byte : ℕ)
+    → is_new_line byte ≡ false → TakesInLine wrote old new a b byte → Takes wrote old new a b (byte ∷ [])
 line_goes_on {S} wrote old new a b byte e h = record {
   text = h.text;
-  is = λ shown text out is_open. let k = h.is is_open.held in goes_on shown old new text out h.text byte is_open k.held (λ rest. in_the_line old new byte h.text rest e k);
+  is = λ shown text out is_open. let k = h.is is_open.held in goes_on shown old new text out h.text byte is_open
+      k.held (λ rest. in_the_line old new byte h.text rest e k);
   given = h.given;
 }
 
 -- ---- one byte after another
 
-pub takes_nothing : {S : Type 0} (wrote : S → S → List ℕ → Type 0) → ((a : S) → wrote a a []) → (line : Line) (a : S) → Takes wrote line line a a []
-takes_nothing {S} wrote nothing line a = record { text = []; is = λ shown text out is_open. rw (append-nil text, append-nil out) is_open; given = nothing a }
+pub takes_nothing : {S : Type 0} (wrote : S → S → List ℕ → Type 0) → ((a : S) → wrote a a [])
+    → (line : Line) (a : S) → Takes wrote line line a a []
+takes_nothing {S} wrote nothing line a =
+    record { text = []; is = λ shown text out is_open. rw (append-nil text, append-nil out) is_open; given = nothing a }
 
-pub takes_twice : {S : Type 0} (wrote : S → S → List ℕ → Type 0) → ((a b c : S) (s t : List ℕ) → wrote a b s → wrote b c t → wrote a c (s ++ t)) → (x y z : Line) (a b c : S) (s t : List ℕ) → Takes wrote x y a b s → Takes wrote y z b c t → Takes wrote x z a c (s ++ t)
+pub takes_twice : {S : Type 0} (wrote : S → S → List ℕ → Type 0)
+    → ((a b c : S) (s t : List ℕ) → wrote a b s → wrote b c t → wrote a c (s ++ t))
+    → (x y z : Line) (a b c : S) (s t : List ℕ) → Takes wrote x y a b s → Takes wrote y z b c t
+    → Takes wrote x z a c (s ++ t)
 takes_twice {S} wrote twice x y z a b c s t h k = record {
   text = h.text ++ k.text;
-  is = λ shown text out is_open. rw (← append_assoc text s t, ← append_assoc out h.text k.text) (k.is shown (text ++ s) (out ++ h.text) (h.is shown text out is_open));
+  is = λ shown text out is_open. rw (← append_assoc text s t, ← append_assoc out h.text k.text)
+      (k.is shown (text ++ s) (out ++ h.text) (h.is shown text out is_open));
   given = twice a b c h.text k.text h.given k.given;
 }

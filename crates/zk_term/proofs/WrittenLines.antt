@@ -9,14 +9,20 @@ use Rattle.zk_term.specs.WrappedTargets.{HasWritten, passed}
 
 -- what goes out at bytes, whatever the text before them was
 abbrev pub GoesOut : Line → Line → List ℕ → List ℕ → Type 0
-GoesOut old new bytes more = (shown : List ℕ → List ℕ) (text out : List ℕ) → IsOpen shown old text out → IsOpen shown new (text ++ bytes) (out ++ more)
+GoesOut old new bytes more = (shown : List ℕ → List ℕ) (text out : List ℕ) → IsOpen shown old text out
+    → IsOpen shown new (text ++ bytes) (out ++ more)
 
 -- all of it was taken
-pub written_on : (shown : List ℕ → List ℕ) (old new : Line) (start before after : Option (List ℕ)) (text bytes more : List ℕ) → GoesOut old new bytes more → Appends before after more → HasWritten shown start text (Some old) before → HasWritten shown start (text ++ bytes) (Some new) after
-written_on shown old new start before after text bytes more goes takes h = (h.0 ++ more, goes shown text h.0 h.1, Appends-trans start before after h.0 more h.2 takes)
+pub written_on : (shown : List ℕ → List ℕ) (old new : Line) (start before after : Option (List ℕ))
+    (text bytes more : List ℕ) → GoesOut old new bytes more → Appends before after more
+    → HasWritten shown start text (Some old) before → HasWritten shown start (text ++ bytes) (Some new) after
+written_on shown old new start before after text bytes more goes takes h =
+    (h.0 ++ more, goes shown text h.0 h.1, Appends-trans start before after h.0 more h.2 takes)
 
 -- a first part of it was taken
-pub written_part : (shown : List ℕ → List ℕ) (old new : Line) (start before after : Option (List ℕ)) (text bytes more : List ℕ) → GoesOut old new bytes more → TookPart before after more → HasWritten shown start text (Some old) before → TookPart start after (shown (text ++ bytes))
+pub written_part : (shown : List ℕ → List ℕ) (old new : Line) (start before after : Option (List ℕ))
+    (text bytes more : List ℕ) → GoesOut old new bytes more → TookPart before after more
+    → HasWritten shown start text (Some old) before → TookPart start after (shown (text ++ bytes))
 written_part shown old new start before after text bytes more goes took h =
     let k = goes shown text h.0 h.1 in record {
       part = h.0 ++ took.part;
@@ -31,13 +37,17 @@ written_part shown old new start before after text bytes more goes took h =
 -- ---- what was held back goes out
 
 -- all of it was taken
-pub ended : (shown : List ℕ → List ℕ) (line : Option Line) (is : Line) (start before after : Option (List ℕ)) (text : List ℕ) → line ≡ Some is → HasWritten shown start text line before → Appends before after is.held.items → Appends start after (passed line shown text)
+pub ended : (shown : List ℕ → List ℕ) (line : Option Line) (is : Line) (start before after : Option (List ℕ))
+    (text : List ℕ) → line ≡ Some is → HasWritten shown start text line before → Appends before after is.held.items
+    → Appends start after (passed line shown text)
 ended shown line is start before after text e h takes =
     let k = rw e at h in
     rw (e, k.1.whole) (Appends-trans start before after k.0 is.held.items k.2 takes)
 
 -- a first part of it was taken
-pub ended_part : (shown : List ℕ → List ℕ) (line : Option Line) (is : Line) (start before after : Option (List ℕ)) (text : List ℕ) → line ≡ Some is → HasWritten shown start text line before → TookPart before after is.held.items → TookPart start after (passed line shown text)
+pub ended_part : (shown : List ℕ → List ℕ) (line : Option Line) (is : Line) (start before after : Option (List ℕ))
+    (text : List ℕ) → line ≡ Some is → HasWritten shown start text line before → TookPart before after is.held.items
+    → TookPart start after (passed line shown text)
 ended_part shown line is start before after text e h took =
     let k = rw e at h in
     rw e (record {
@@ -48,7 +58,8 @@ ended_part shown line is start before after text e h took =
     })
 
 -- there is no width, and nothing was held back
-pub ended_none : (shown : List ℕ → List ℕ) (line : Option Line) (start now : Option (List ℕ)) (text : List ℕ) → line ≡ None → HasWritten shown start text line now → Appends start now (passed line shown text)
+pub ended_none : (shown : List ℕ → List ℕ) (line : Option Line) (start now : Option (List ℕ)) (text : List ℕ)
+    → line ≡ None → HasWritten shown start text line now → Appends start now (passed line shown text)
 ended_none shown line start now text e h = let k = rw e at h in rw e k
 
 -- all of a text is a first part of it

@@ -1,12 +1,13 @@
 -- What two targets took of a machine's text.
 use Rattle.std.specs.Prelude.{encode_utf8_all}
-use Rattle.std.proofs.Common.{◌≡◌, ◌∙◌, ℕ, Bool, true, false, List, [], ◌++◌, Option, append_assoc, append-nil, sym, refl, ap}
+use Rattle.std.proofs.Common.{◌≡◌, ◌∙◌, ℕ, Bool, true, false, List, [], ◌++◌, Option, append_assoc, append-nil, sym}
+use Rattle.std.proofs.Common.{refl, ap}
 use Rattle.std.proofs.lemmas.Str.{encodes-append}
 use Rattle.std.proofs.KnownBytes.{Appends-nil, Appends-trans}
 use Rattle.zk_term.specs.Devices.{Sender, Sends, Sent}
 
--- the bytes that the screen's and the transcript's target took and those that wait to go there, whether the screen over them has met
--- a failed write, and whether one of the targets has
+-- the bytes that the screen's and the transcript's target took and those that wait to go there, whether the screen over
+-- them has met a failed write, and whether one of the targets has
 pub record Targets : Type 0 where
   pub screen : Option (List ℕ)
   pub to_screen : List ℕ
@@ -22,8 +23,8 @@ screen_sender t = record { taken = t.screen; waiting = t.to_screen; failed = t.f
 abbrev pub script_sender : Targets → Sender
 script_sender t = record { taken = t.script; waiting = t.to_script; failed = t.failed }
 
--- Text was sent to two targets: each took a first part of it, and while no write has failed the rest waits. The screen knows
--- of a failure where it knew at first.
+-- Text was sent to two targets: each took a first part of it, and while no write has failed the rest waits. The screen
+-- knows of a failure where it knew at first.
 pub record Written (old new : Targets) (screen script : List ℕ) : Type 0 where
   pub screen_sent : Sends (screen_sender old) (screen_sender new) screen
   pub script_sent : Sends (script_sender old) (script_sender new) script
@@ -36,7 +37,9 @@ sent_by false a b c s t e h k =
     record {
       part = h.part ++ k.part;
       rest = k.rest;
-      whole = sym (append_assoc a.waiting s t) ∙ ap (λ (l : List ℕ). l ++ t) first ∙ append_assoc h.part b.waiting t ∙ ap (λ (l : List ℕ). h.part ++ l) k.whole ∙ sym (append_assoc h.part k.part k.rest);
+      whole = sym (append_assoc a.waiting s t) ∙ ap (λ (l : List ℕ). l ++ t) first
+          ∙ append_assoc h.part b.waiting t ∙ ap (λ (l : List ℕ). h.part ++ l) k.whole
+          ∙ sym (append_assoc h.part k.part k.rest);
       takes = Appends-trans a.taken b.taken c.taken h.part k.part h.takes k.takes;
       all = λ f. ((h.all e).0, (k.all f).1);
       none = λ f. let sound = (h.all e).0 in absurd cc;
@@ -64,7 +67,8 @@ sent_nothing a = record {
 
 sends_twice : (a b c : Sender) (s t : List ℕ) → Sends a b s → Sends b c t → Sends a c (s ++ t)
 unfolding Sends
-sends_twice a b c s t h k = rw (encodes-append s t) (sent_by b.failed a b c (encode_utf8_all s) (encode_utf8_all t) refl h k)
+sends_twice a b c s t h k =
+    rw (encodes-append s t) (sent_by b.failed a b c (encode_utf8_all s) (encode_utf8_all t) refl h k)
 
 sends_nothing : (a : Sender) → Sends a a []
 unfolding Sends
@@ -73,7 +77,8 @@ sends_nothing a = sent_nothing a
 pub written_nothing : (a : Targets) → Written a a [] []
 written_nothing a = record { screen_sent = sends_nothing _; script_sent = sends_nothing _; known = λ e. e }
 
-pub written_twice : (a b c : Targets) (s t u v : List ℕ) → Written a b s u → Written b c t v → Written a c (s ++ t) (u ++ v)
+pub written_twice : (a b c : Targets) (s t u v : List ℕ) → Written a b s u → Written b c t v
+    → Written a c (s ++ t) (u ++ v)
 written_twice a b c s t u v h k = record {
   screen_sent = sends_twice _ _ _ s t h.screen_sent k.screen_sent;
   script_sent = sends_twice _ _ _ u v h.script_sent k.script_sent;

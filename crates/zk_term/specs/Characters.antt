@@ -1,5 +1,6 @@
 -- The characters of bytes that should be UTF-8 (Unicode Standard, definition D92), and a typed line's codes.
-use Rattle.std.specs.Prelude.{◌≡◌, ℕ, zero, suc, ◌-◌, Bool, ◌&&◌, List, [], ◌∷◌, ◌++◌, length, take, map, slice_get, Option, Some, None, chars, encode_utf8, nat_le, ◌==◌, unwrap_or, if◌then◌else◌}
+use Rattle.std.specs.Prelude.{◌≡◌, ℕ, zero, suc, ◌-◌, Bool, ◌&&◌, List, [], ◌∷◌, ◌++◌, length, take, map, slice_get}
+use Rattle.std.specs.Prelude.{Option, Some, None, chars, encode_utf8, nat_le, ◌==◌, unwrap_or, if◌then◌else◌}
 use Rattle.std.specs.Char.{IsScalar, len_utf8}
 use Rattle.std.specs.Str.{is_utf8}
 use Rattle.zk_text.specs.Extra.{ExtraTable, code_of}
@@ -7,8 +8,11 @@ use Rattle.zk_text.specs.Extra.{ExtraTable, code_of}
 -- bytes spell characters: each is a character in UTF-8, or a single byte with which no character begins
 pub data Spells : List ℕ → List (Option ℕ) → Type 0 where
   Ends : Spells [] []
-  Character : (c : ℕ) (bytes : List ℕ) (characters : List (Option ℕ)) → IsScalar c → Spells bytes characters → Spells (encode_utf8 c ++ bytes) (Some c ∷ characters)
-  Stray : (b : ℕ) (bytes : List ℕ) (characters : List (Option ℕ)) → ((c : ℕ) (rest : List ℕ) → IsScalar c → b ∷ bytes ≡ encode_utf8 c ++ rest → ⊥) → Spells bytes characters → Spells (b ∷ bytes) (None ∷ characters)
+  Character : (c : ℕ) (bytes : List ℕ) (characters : List (Option ℕ)) → IsScalar c → Spells bytes characters
+      → Spells (encode_utf8 c ++ bytes) (Some c ∷ characters)
+  Stray : (b : ℕ) (bytes : List ℕ) (characters : List (Option ℕ))
+      → ((c : ℕ) (rest : List ℕ) → IsScalar c → b ∷ bytes ≡ encode_utf8 c ++ rest → ⊥) → Spells bytes characters
+      → Spells (b ∷ bytes) (None ∷ characters)
 
 -- ---- the same, from the front of the bytes on
 
@@ -38,7 +42,8 @@ character_step (Some c) = len_utf8 c
 unfoldable pub characters_past : ℕ → List ℕ → List (Option ℕ)
 characters_past n [] = []
 characters_past (suc n) (b ∷ bytes) = characters_past n bytes
-characters_past zero (b ∷ bytes) = character_of (character_length (b ∷ bytes)) (b ∷ bytes) ∷ characters_past (character_length (b ∷ bytes) - 1) bytes
+characters_past zero (b ∷ bytes) =
+    character_of (character_length (b ∷ bytes)) (b ∷ bytes) ∷ characters_past (character_length (b ∷ bytes) - 1) bytes
 
 -- the characters of bytes
 unfoldable pub characters_of : List ℕ → List (Option ℕ)

@@ -50,8 +50,8 @@ pub record Sender : Type 0 where
   pub waiting : List ℕ
   pub failed : Bool
 
--- bytes were sent to a device: after those that waited before, it took a first part of all, and while no write has failed
--- the others wait; none, where a write had failed before
+-- bytes were sent to a device: after those that waited before, it took a first part of all, and while no write has
+-- failed the others wait; none, where a write had failed before
 pub record Sent (old new : Sender) (bytes : List ℕ) : Type 0 where
   pub part : List ℕ
   pub rest : List ℕ

@@ -10,8 +10,8 @@ blank = 32
 abbrev pub is_on_grid : ℕ → ℕ → Bool
 is_on_grid row column = nat_le 1 row && nat_le row 255 && nat_le 1 column && nat_le column 80
 
--- The character in each cell, by its row and column. There is nothing but blanks off the grid, so two grids are the same
--- where all their cells are.
+-- The character in each cell, by its row and column. There is nothing but blanks off the grid, so two grids are the
+-- same where all their cells are.
 pub record Cells : Type 0 where
   pub at : ℕ → ℕ → ℕ
   pub blank_outside : (row column : ℕ) → is_on_grid row column ≡ false → at row column ≡ blank

@@ -15,9 +15,11 @@ use Rattle.zk_term.specs.declared.windows.Window.TheVariants.{Lower, Upper}
 use Rattle.zk_term.specs.Windows.{Windows}
 
 -- two grids are the same where all their cells are
-pub same_cells : (a b : Cells) → ((row column : ℕ) → is_on_grid row column ≡ true → a.at row column ≡ b.at row column) → a ≡ b
+pub same_cells : (a b : Cells) → ((row column : ℕ) → is_on_grid row column ≡ true
+    → a.at row column ≡ b.at row column) → a ≡ b
 same_cells a b each =
-    let whole : (row column : ℕ) → a.at row column ≡ b.at row column = λ row column. elim (cases_Bool (is_on_grid row column)) [
+    let whole : (row column : ℕ) → a.at row column ≡ b.at row
+    column = λ row column. elim (cases_Bool (is_on_grid row column)) [
       | inl on ↦ each row column on
       | inr off ↦ a.blank_outside row column off ∙ sym (b.blank_outside row column off)
     ] in
@@ -25,7 +27,8 @@ same_cells a b each =
     λ i. record {
       at = p i;
       blank_outside = is_prop→PathP (λ j. (row column : ℕ) → is_on_grid row column ≡ false → p j row column ≡ blank)
-          (λ j. Π_prop (λ row. Π_prop (λ column. Π_prop (λ _. ℕ_set (p j row column) blank)))) a.blank_outside b.blank_outside i;
+          (λ j. Π_prop (λ row. Π_prop (λ column. Π_prop (λ _. ℕ_set (p j row column) blank)))) a.blank_outside
+          b.blank_outside i;
     }
 
 -- what is known of a place on the grid
@@ -58,16 +61,20 @@ row_at : (cells : Cells) (row : ℕ) → 1 ≤ row → row ≤ 255 → get_or (r
 unfolding rows_of
 row_at cells row from to = get_or-map-range_with_len (row_of cells) 1 255 (row - 1) row [] (omega arith) (omega arith)
 
-cell_at : (cells : Cells) (row column : ℕ) → 1 ≤ column → column ≤ 80 → get_or (row_of cells row) (column - 1) 0 ≡ cells.at row column
+cell_at : (cells : Cells) (row column : ℕ) → 1 ≤ column → column ≤ 80
+    → get_or (row_of cells row) (column - 1) 0 ≡ cells.at row column
 unfolding row_of
-cell_at cells row column from to = get_or-map-range_with_len (cells.at row) 1 80 (column - 1) column 0 (omega arith) (omega arith)
+cell_at cells row column from to =
+    get_or-map-range_with_len (cells.at row) 1 80 (column - 1) column 0 (omega arith) (omega arith)
 
 -- two grids of the same rows are the same
 pub same_rows : (a b : Cells) → rows_of a ≡ rows_of b → a ≡ b
 same_rows a b same = same_cells a b (λ row column on.
     let g = is_on_grid-true row column on in
-    let rows : row_of a row ≡ row_of b row = sym (row_at a row g.row_from g.row_to) ∙ (ap (λ (rs : List (List ℕ)). get_or rs (row - 1) []) same ∙ row_at b row g.row_from g.row_to) in
-    sym (cell_at a row column g.column_from g.column_to) ∙ (ap (λ (r : List ℕ). get_or r (column - 1) 0) rows ∙ cell_at b row column g.column_from g.column_to))
+    let rows : row_of a row ≡ row_of b row = sym (row_at a row g.row_from g.row_to)
+    ∙ (ap (λ (rs : List (List ℕ)). get_or rs (row - 1) []) same ∙ row_at b row g.row_from g.row_to) in
+    sym (cell_at a row column g.column_from g.column_to)
+    ∙ (ap (λ (r : List ℕ). get_or r (column - 1) 0) rows ∙ cell_at b row column g.column_from g.column_to))
 
 -- a grid is stored as its rows
 abbrev pub cells_code : Coded Cells
@@ -87,7 +94,17 @@ window_code = code_by Bool coded_bool is_upper (λ b. cond b Upper Lower) window
 -- the windows are stored field by field
 abbrev pub windows_code : Coded Windows
 windows_code =
-    code_by (Cells × (ℕ × (ℕ × (ℕ × (Window × (Cells × ℕ)))))) (coded× cells_code (coded× coded_ℕ (coded× coded_ℕ (coded× coded_ℕ (coded× window_code (coded× cells_code coded_ℕ))))))
+    code_by (Cells × (ℕ × (ℕ × (ℕ × (Window × (Cells × ℕ))))))
+    (coded× cells_code
+    (coded× coded_ℕ (coded× coded_ℕ (coded× coded_ℕ (coded× window_code (coded× cells_code coded_ℕ))))))
     (λ w. (w.cells, (w.height, (w.row, (w.column, (w.selected, (w.gone, w.gone_height)))))))
-    (λ p. record { cells = p.0; height = p.1.0; row = p.1.1.0; column = p.1.1.1.0; selected = p.1.1.1.1.0; gone = p.1.1.1.1.1.0; gone_height = p.1.1.1.1.1.1 })
+    (λ p. record {
+      cells = p.0;
+      height = p.1.0;
+      row = p.1.1.0;
+      column = p.1.1.1.0;
+      selected = p.1.1.1.1.0;
+      gone = p.1.1.1.1.1.0;
+      gone_height = p.1.1.1.1.1.1;
+    })
     (λ _. refl)

@@ -10,8 +10,8 @@ abbrev pub Wrote : Bool → Option (List ℕ) → Option (List ℕ) → List ℕ
 Wrote false old new text = Appends old new text
 Wrote true old new text = TookPart old new text
 
--- what a writer tells of itself: the bytes that its target took, where it tells them, those that wait to go there, whether a
--- write to the target has failed, and whether the writer has met one that failed
+-- what a writer tells of itself: the bytes that its target took, where it tells them, those that wait to go there,
+-- whether a write to the target has failed, and whether the writer has met one that failed
 pub record Sheet : Type 0 where
   pub taken : Option (List ℕ)
   pub waiting : List ℕ
@@ -19,12 +19,14 @@ pub record Sheet : Type 0 where
   pub failed : Bool
 
 abbrev pub sheet : {S : Type 0} → (S → Option (List ℕ)) → (S → Bool) → S → List ℕ → Bool → Sheet
-sheet {S} taken has_failed target waiting failed = record { taken = taken target; waiting = waiting; broken = has_failed target; failed = failed }
+sheet {S} taken has_failed target waiting failed =
+    record { taken = taken target; waiting = waiting; broken = has_failed target; failed = failed }
 
--- bytes were given to a writer, by whether it has met a failed write before and after that: its target took the first of them
--- after those that waited, and the others wait; or it took a first part; or nothing was done
+-- bytes were given to a writer, by whether it has met a failed write before and after that: its target took the first
+-- of them after those that waited, and the others wait; or it took a first part; or nothing was done
 abbrev pub GivenBy : Bool → Bool → Sheet → Sheet → List ℕ → Type 0
-GivenBy false false old new bytes = PassedOn old.taken new.taken (old.waiting ++ bytes) new.waiting × (new.broken ≡ old.broken)
+GivenBy false false old new bytes =
+    PassedOn old.taken new.taken (old.waiting ++ bytes) new.waiting × (new.broken ≡ old.broken)
 GivenBy false true old new bytes = TookPart old.taken new.taken (old.waiting ++ bytes) × (new.broken ≡ true)
 GivenBy true now old new bytes = (now ≡ true) × (new.taken ≡ old.taken) × (new.broken ≡ old.broken)
 
@@ -39,11 +41,13 @@ by_nothing true a = (refl, refl, refl)
 after : (w s t p v : List ℕ) → w ++ s ≡ p ++ v → w ++ (s ++ t) ≡ p ++ (v ++ t)
 after w s t p v h = sym (append_assoc w s t) ∙ ap (λ (l : List ℕ). l ++ t) h ∙ append_assoc p v t
 
-by_twice : (x y z : Bool) (a b c : Sheet) (s t : List ℕ) → GivenBy x y a b s → GivenBy y z b c t → GivenBy x z a c (s ++ t)
+by_twice : (x y z : Bool) (a b c : Sheet) (s t : List ℕ) → GivenBy x y a b s → GivenBy y z b c t
+    → GivenBy x z a c (s ++ t)
 by_twice false false false a b c s t h k = (
   record {
     part = h.0.part ++ k.0.part;
-    whole = after a.waiting s t h.0.part b.waiting h.0.whole ∙ ap (λ (l : List ℕ). h.0.part ++ l) k.0.whole ∙ sym (append_assoc h.0.part k.0.part c.waiting);
+    whole = after a.waiting s t h.0.part b.waiting h.0.whole ∙ ap (λ (l : List ℕ). h.0.part ++ l) k.0.whole
+        ∙ sym (append_assoc h.0.part k.0.part c.waiting);
     takes = Appends-trans a.taken b.taken c.taken h.0.part k.0.part h.0.takes k.0.takes;
   },
   k.1 ∙ h.1,
@@ -52,7 +56,8 @@ by_twice false false true a b c s t h k = (
   record {
     part = h.0.part ++ k.0.part;
     rest = k.0.rest;
-    whole = after a.waiting s t h.0.part b.waiting h.0.whole ∙ ap (λ (l : List ℕ). h.0.part ++ l) k.0.whole ∙ sym (append_assoc h.0.part k.0.part k.0.rest);
+    whole = after a.waiting s t h.0.part b.waiting h.0.whole ∙ ap (λ (l : List ℕ). h.0.part ++ l) k.0.whole
+        ∙ sym (append_assoc h.0.part k.0.part k.0.rest);
     takes = Appends-trans a.taken b.taken c.taken h.0.part k.0.part h.0.takes k.0.takes;
   },
   k.1,

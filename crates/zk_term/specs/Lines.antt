@@ -1,5 +1,6 @@
 -- The lines of an input.
-use Rattle.std.specs.Prelude.{◌≡◌, ◌⊎◌, ◌<◌, ℕ, Bool, true, false, List, [], ◌∷◌, ◌++◌, length, Option, Some, None, Result, Ok, Err, nat_lt, nat_eq, if◌then◌else◌}
+use Rattle.std.specs.Prelude.{◌≡◌, ◌⊎◌, ◌<◌, ℕ, Bool, true, false, List, [], ◌∷◌, ◌++◌, length, Option, Some, None}
+use Rattle.std.specs.Prelude.{Result, Ok, Err, nat_lt, nat_eq, if◌then◌else◌}
 use Rattle.std.specs.List.{list_all, slice_split, AllByRecursion, concat}
 use Rattle.std.specs.Str.Lines.{lines_of_parts, strip_carriage_return}
 use Rattle.arrayvec.specs.ArrayVec.{ArrayVec}
@@ -90,7 +91,8 @@ pub record IsLastLine (bytes later line : List ℕ) : Type 0 where
 
 -- a line comes first, and the input goes on or is over after it
 abbrev pub IsNextLine : List ℕ → List ℕ → List ℕ → Option InputEnd → Type 0
-IsNextLine bytes later line how = (IsEndedLine bytes later line × (how ≡ None)) ⊎ (IsLastLine bytes later line × (how ≡ Some over.End))
+IsNextLine bytes later line how =
+    (IsEndedLine bytes later line × (how ≡ None)) ⊎ (IsLastLine bytes later line × (how ≡ Some over.End))
 
 -- a read failed in a line: a part of the line had come, with no new line, and this is what comes later
 pub record BreaksOff (bytes later : List ℕ) : Type 0 where
@@ -121,22 +123,25 @@ pub record Reads {S : Type 0} (gives : S → S → List ℕ → Type 0) (before 
   pub last : List ℕ
   pub gave : gives mid after last
 
--- Bytes were taken of what was read ahead, and of what more reads gave, of which none was made in vain: the last of them gave
--- at least one of the bytes.
+-- Bytes were taken of what was read ahead, and of what more reads gave, of which none was made in vain: the last of
+-- them gave at least one of the bytes.
 abbrev pub Takes : {S : Type 0} → (S → S → List ℕ → Type 0) → S → S → List ℕ → List ℕ → List ℕ → Type 0
 Takes {S} gives before after ahead ahead' bytes =
     ((after ≡ before) × (ahead ≡ bytes ++ ahead'))
-    ⊎ ((r : Reads gives before after) × ((ahead ++ (concat r.parts ++ r.last) ≡ bytes ++ ahead') × (length ahead' < length r.last)))
+    ⊎ ((r : Reads gives before after) × ((ahead ++ (concat r.parts ++ r.last) ≡ bytes ++ ahead')
+    × (length ahead' < length r.last)))
 
 -- so many bytes were taken, and none of them is a new line
-pub record TakesPlain {S : Type 0} (gives : S → S → List ℕ → Type 0) (before after : S) (ahead ahead' : List ℕ) (count : ℕ) : Type 0 where
+pub record TakesPlain {S : Type 0} (gives : S → S → List ℕ → Type 0) (before after : S) (ahead ahead' : List ℕ)
+    (count : ℕ) : Type 0 where
   pub bytes : List ℕ
   pub taken : Takes gives before after ahead ahead' bytes
   pub plain : IsPlain bytes
   pub many : length bytes ≡ count
 
 -- a line was taken, up to its new line, of what was read ahead and of what more reads gave, and these are its codes
-pub record TakesLine {S : Type 0} (gives : S → S → List ℕ → Type 0) (before after : S) (ahead ahead' : List ℕ) (t : ExtraTable) (codes : List ℕ) : Type 0 where
+pub record TakesLine {S : Type 0} (gives : S → S → List ℕ → Type 0) (before after : S) (ahead ahead' : List ℕ)
+    (t : ExtraTable) (codes : List ℕ) : Type 0 where
   pub part : List ℕ
   pub taken : Takes gives before after ahead ahead' (part ++ 10 ∷ [])
   pub plain : IsPlain part
@@ -144,8 +149,10 @@ pub record TakesLine {S : Type 0} (gives : S → S → List ℕ → Type 0) (bef
   pub is : codes ≡ line_codes t (strip_carriage_return part)
 
 -- so it is with an answer after which the input goes on
-abbrev pub TakesAnswer : {S : Type 0} → (S → S → List ℕ → Type 0) → S → S → List ℕ → List ℕ → ExtraTable → Input → Type 0
-TakesAnswer {S} gives before after ahead ahead' t (input.Line codes) = TakesLine gives before after ahead ahead' t codes.items
+abbrev pub TakesAnswer : {S : Type 0} → (S → S → List ℕ → Type 0) → S → S → List ℕ → List ℕ → ExtraTable
+    → Input → Type 0
+TakesAnswer {S} gives before after ahead ahead' t (input.Line codes) =
+    TakesLine gives before after ahead ahead' t codes.items
 TakesAnswer {S} gives before after ahead ahead' t _ = Unit {0}
 
 -- a line is too long, whether its source tells its bytes or not
@@ -158,15 +165,17 @@ TakesByte {S} gives before after ahead ahead' b =
     ((after ≡ before) × (ahead ≡ b ∷ ahead')) ⊎ ((ahead ≡ []) × gives before after (b ∷ ahead'))
 
 -- the last that a source did was a read that failed, and its reader has no byte read ahead
-pub record ReadFailed {S : Type 0} (fails : S → S → Type 0) (failed : S → Bool) (source : S) (reading : Reading) : Type 0 where
+pub record ReadFailed {S : Type 0} (fails : S → S → Type 0) (failed : S → Bool) (source : S)
+    (reading : Reading) : Type 0 where
   pub just : HasJust fails source
   pub stays : failed source ≡ true
   pub none : reading.ahead ≡ []
 
--- an answer is what comes next of the bytes from here on, before those that come later; where a line is not there either
--- a read has failed, or none has failed and too many bytes came
+-- an answer is what comes next of the bytes from here on, before those that come later; where a line is not there
+-- either a read has failed, or none has failed and too many bytes came
 abbrev pub Hears : ExtraTable → List ℕ → List ℕ → Option InputEnd → Type 0 → Type 0 → Input → Type 0
-Hears t bytes later how failed sound (input.Line codes) = (line : List ℕ) × IsNextLine bytes later line how × (codes.items ≡ line_codes t line)
+Hears t bytes later how failed sound (input.Line codes) =
+    (line : List ℕ) × IsNextLine bytes later line how × (codes.items ≡ line_codes t line)
 Hears t bytes later how failed sound input.End = (bytes ≡ []) × (later ≡ [])
 Hears t bytes later how failed sound input.Failed = (failed × BreaksOff bytes later) ⊎ (sound × IsTooLong bytes later)
 
@@ -184,23 +193,31 @@ FailsAlone failed sound too_long _ = sound
 
 -- a line's bytes are heard next, or how the input is over: those kept have the line's codes
 abbrev pub HearsBytes : List ℕ → List ℕ → Option InputEnd → Type 0 → Type 0 → Result (ArrayVec ℕ) InputEnd → Type 0
-HearsBytes bytes later how failed sound (Ok kept) = (line : List ℕ) × IsNextLine bytes later line how × ((t : ExtraTable) → line_codes t kept.items ≡ line_codes t line)
+HearsBytes bytes later how failed sound (Ok kept) = (line : List ℕ) × IsNextLine bytes later line how
+    × ((t : ExtraTable) → line_codes t kept.items ≡ line_codes t line)
 HearsBytes bytes later how failed sound (Err over.End) = (bytes ≡ []) × (later ≡ [])
-HearsBytes bytes later how failed sound (Err over.Failed) = (failed × BreaksOff bytes later) ⊎ (sound × IsTooLong bytes later)
+HearsBytes bytes later how failed sound (Err over.Failed) =
+    (failed × BreaksOff bytes later) ⊎ (sound × IsTooLong bytes later)
 
 -- a reader and its source, which tells its bytes or not, give some bytes
 abbrev pub Gives : Reading → Option (List ℕ) → Reading → Option (List ℕ) → List ℕ → Type 0
-Gives r left r' left' given = (bytes : List ℕ) → left ≡ Some bytes → (later : List ℕ) × (left' ≡ Some later) × (r.ahead ++ bytes ≡ given ++ (r'.ahead ++ later))
+Gives r left r' left' given = (bytes : List ℕ) → left ≡ Some bytes → (later : List ℕ) × (left' ≡ Some later)
+    × (r.ahead ++ bytes ≡ given ++ (r'.ahead ++ later))
 
 -- a step of theirs gives bytes, or none at the end
-abbrev pub GivesEach : {X : Type 0} → (X → List ℕ) → Reading → Option (List ℕ) → Reading → Option (List ℕ) → Result X InputEnd → Type 0
+abbrev pub GivesEach : {X : Type 0} → (X → List ℕ) → Reading → Option (List ℕ) → Reading → Option (List ℕ)
+    → Result X InputEnd → Type 0
 GivesEach given r left r' left' (Ok x) = Gives r left r' left' (given x)
-GivesEach given r left r' left' (Err over.End) = Gives r left r' left' [] × ((bytes : List ℕ) → left ≡ Some bytes → r.ahead ++ bytes ≡ [])
+GivesEach given r left r' left' (Err over.End) =
+    Gives r left r' left' [] × ((bytes : List ℕ) → left ≡ Some bytes → r.ahead ++ bytes ≡ [])
 GivesEach given r left r' left' (Err over.Failed) = Gives r left r' left' []
 
 -- they give a line, of which these bytes are kept, or how the input is over
-abbrev pub GivesLine : Reading → Option (List ℕ) → Reading → Option (List ℕ) → Type 0 → Type 0 → Result (ArrayVec ℕ) InputEnd → Type 0
-GivesLine r left r' left' failed sound result = (bytes : List ℕ) → left ≡ Some bytes → (later : List ℕ) × (left' ≡ Some later) × HearsBytes (r.ahead ++ bytes) (r'.ahead ++ later) r'.over failed sound result
+abbrev pub GivesLine : Reading → Option (List ℕ) → Reading → Option (List ℕ) → Type 0 → Type 0
+    → Result (ArrayVec ℕ) InputEnd → Type 0
+GivesLine r left r' left' failed sound result = (bytes : List ℕ) → left ≡ Some bytes
+    → (later : List ℕ) × (left' ≡ Some later) × HearsBytes (r.ahead ++ bytes) (r'.ahead ++ later) r'.over failed
+    sound result
 
 -- what holds of the source after a step, by how it has gone
 abbrev pub GoesBy : {X : Type 0} → Type 0 → Type 0 → Type 0 → Result X InputEnd → Type 0
@@ -220,15 +237,19 @@ ended_in (part ∷ next ∷ parts) = strip_carriage_return part ∷ ended_in (ne
 unfoldable pub ended_lines : List ℕ → List (List ℕ)
 ended_lines bytes = ended_in (slice_split is_new_line bytes)
 
--- The beginnings of an input, and of its complete lines: a line and its new line, with a return before that or not; a last line without one; no
--- bytes; and too many bytes without a new line.
+-- The beginnings of an input, and of its complete lines: a line and its new line, with a return before that or not; a
+-- last line without one; no bytes; and too many bytes without a new line.
 pub record AreLines : Type 0 where
-  pub ended : (line rest : List ℕ) → IsPlain line → nat_lt (length line) 65536 ≡ true → heard (line ++ 10 ∷ rest) ≡ behind (strip_carriage_return line) (heard rest)
-  pub last : (b : ℕ) (line : List ℕ) → IsPlain (b ∷ line) → nat_lt (length (b ∷ line)) 65536 ≡ true → heard (b ∷ line) ≡ behind (b ∷ line) (nothing_more over.End)
+  pub ended : (line rest : List ℕ) → IsPlain line → nat_lt (length line) 65536 ≡ true
+      → heard (line ++ 10 ∷ rest) ≡ behind (strip_carriage_return line) (heard rest)
+  pub last : (b : ℕ) (line : List ℕ) → IsPlain (b ∷ line) → nat_lt (length (b ∷ line)) 65536 ≡ true
+      → heard (b ∷ line) ≡ behind (b ∷ line) (nothing_more over.End)
   pub none : heard [] ≡ nothing_more over.End
-  pub complete : (line rest : List ℕ) → IsPlain line → ended_lines (line ++ 10 ∷ rest) ≡ strip_carriage_return line ∷ ended_lines rest
+  pub complete : (line rest : List ℕ) → IsPlain line → ended_lines (line ++ 10 ∷ rest) ≡ strip_carriage_return
+      line ∷ ended_lines rest
   pub cut_off : (line : List ℕ) → IsPlain line → ended_lines line ≡ []
-  pub too_long : (line rest : List ℕ) → IsPlain line → length line ≡ 65536 → heard (line ++ rest) ≡ nothing_more over.Failed
+  pub too_long : (line rest : List ℕ) → IsPlain line → length line ≡ 65536
+      → heard (line ++ rest) ≡ nothing_more over.Failed
 
 -- bytes are none, or end with a new line
 abbrev pub EndsWhole : List ℕ → Type 0
@@ -237,9 +258,12 @@ EndsWhole taken = (taken ≡ []) ⊎ ((front : List ℕ) × (taken ≡ front ++ 
 -- a source has given these complete lines, one read after another, and more is read ahead
 abbrev pub GaveLines : {S : Type 0} → (S → S → List ℕ → Type 0) → S → S → List (List ℕ) → List ℕ → Type 0
 GaveLines {S} gives before after lines ahead =
-    (parts : List (List ℕ)) × (AreGiven gives before after parts × ((taken : List ℕ) × ((concat parts ≡ taken ++ ahead) × (ended_lines taken ≡ lines) × EndsWhole taken)))
+    (parts : List (List ℕ)) × (AreGiven gives before after parts
+    × ((taken : List ℕ) × ((concat parts ≡ taken ++ ahead) × (ended_lines taken ≡ lines) × EndsWhole taken)))
 
 -- A source has given no lines at first, and one more after each line that is taken.
 pub record LinesAreGiven {S : Type 0} (gives : S → S → List ℕ → Type 0) : Type 0 where
   pub none : (a : S) → GaveLines gives a a [] []
-  pub more : (a b c : S) (lines : List (List ℕ)) (ahead ahead' part : List ℕ) → GaveLines gives a b lines ahead → Takes gives b c ahead ahead' (part ++ 10 ∷ []) → IsPlain part → GaveLines gives a c (lines ++ strip_carriage_return part ∷ []) ahead'
+  pub more : (a b c : S) (lines : List (List ℕ)) (ahead ahead' part : List ℕ) → GaveLines gives a b lines ahead
+      → Takes gives b c ahead ahead' (part ++ 10 ∷ []) → IsPlain part
+      → GaveLines gives a c (lines ++ strip_carriage_return part ∷ []) ahead'

@@ -11,7 +11,8 @@ hex_digits n = map (λ k. hex_digit (n / 16 ^ k % 16)) (7 ∷ 6 ∷ 5 ∷ 4 ∷ 
 
 -- how many zeros are left out of eight digits, so that five are left at least
 abbrev pub zeros_left_out : ℕ → ℕ
-zeros_left_out n = if nat_lt n 0x10_0000 then 3 else if nat_lt n 0x100_0000 then 2 else if nat_lt n 0x1000_0000 then 1 else 0
+zeros_left_out n =
+    if nat_lt n 0x10_0000 then 3 else if nat_lt n 0x100_0000 then 2 else if nat_lt n 0x1000_0000 then 1 else 0
 
 -- an address: its hexadecimal digits, at least five
 unfoldable pub address_digits : ℕ → List ℕ

@@ -50,8 +50,8 @@ rest_of_text line rest =
     join_with_byte 10
     (from_open (rest_of_line line) line.width (slice_split is_new_line rest))
 
--- Of a text, as it is shown, these bytes have gone out, and the open line holds the rest back; and the line knows enough
--- of the text for whatever comes later.
+-- Of a text, as it is shown, these bytes have gone out, and the open line holds the rest back; and the line knows
+-- enough of the text for whatever comes later.
 pub record IsOpen (shown : List ℕ → List ℕ) (line : Line) (text out : List ℕ) : Type 0 where
   pub whole : shown text ≡ out ++ line.held.items
   pub later : (rest : List ℕ) → shown (text ++ rest) ≡ out ++ rest_of_text line rest

@@ -1,12 +1,13 @@
--- The upper window (Standard, sections 8.6 and 8.7): a grid of cells, of which a height of rows is shown, with a cursor;
--- the lower window has neither. Of grids that are gone the tallest is kept, for whoever draws the screen.
-use Rattle.std.specs.Prelude.{Bool, true, ℕ, zero, suc, ◌+◌, List, [], ◌∷◌, map, if◌then◌else◌, ◌==◌, ◌&&◌, nat_lt, nat_le, min, max}
+-- The upper window (Standard, sections 8.6 and 8.7): a grid of cells, of which a height of rows is shown, with a
+-- cursor; the lower window has neither. Of grids that are gone the tallest is kept, for whoever draws the screen.
+use Rattle.std.specs.Prelude.{Bool, true, ℕ, zero, suc, ◌+◌, List, [], ◌∷◌, map, if◌then◌else◌, ◌==◌, ◌&&◌, nat_lt}
+use Rattle.std.specs.Prelude.{nat_le, min, max}
 use Rattle.zk_term.specs.Grid.{Cells, blank, no_cells, emptied, cell_put}
 use Rattle.zk_term.specs.declared.windows.Window.{Window}
 use Rattle.zk_term.specs.declared.windows.Window.TheVariants.{Lower, Upper}
 
--- the cells, how many rows are shown, the row and column of the cursor, and the window that is selected; the cells and the
--- height of the tallest grid that has gone, or has become lower, since one was last forgotten
+-- the cells, how many rows are shown, the row and column of the cursor, and the window that is selected; the cells and
+-- the height of the tallest grid that has gone, or has become lower, since one was last forgotten
 pub record Windows : Type 0 where
   pub cells : Cells
   pub height : ℕ
@@ -18,7 +19,8 @@ pub record Windows : Type 0 where
 
 -- at the start the upper window has no row, and the lower one is selected (section 8.7.2)
 unfoldable pub first_windows : Windows
-first_windows = record { cells = no_cells; height = 0; row = 1; column = 1; selected = Lower; gone = no_cells; gone_height = 0 }
+first_windows =
+    record { cells = no_cells; height = 0; row = 1; column = 1; selected = Lower; gone = no_cells; gone_height = 0 }
 
 -- the cursor goes to the top left
 abbrev pub homed : Windows → Windows
@@ -45,7 +47,8 @@ with_height version height w = record w { cells = emptied (past version height) 
 
 -- the upper window gets a height (section 15, `split_window`)
 unfoldable pub split : ℕ → ℕ → Windows → Windows
-split version lines w = homed_below (min lines 255) (with_height version (min lines 255) (kept_if_lower (min lines 255) w))
+split version lines w =
+    homed_below (min lines 255) (with_height version (min lines 255) (kept_if_lower (min lines 255) w))
 
 -- a window is selected; in the upper one the cursor goes to the top left (section 8.7.2)
 unfoldable pub window_selected : Window → Windows → Windows

@@ -6,10 +6,18 @@ use Rattle.zk_term.specs.Windows.{Windows}
 
 -- what contracts see
 abbrev pub windows_of : Inside → Windows
-windows_of w = record { cells = cells_of w.cells.items; height = w.height; row = w.row; column = w.column; selected = w.selected; gone = cells_of w.gone.items; gone_height = w.gone_height }
+windows_of w = record {
+  cells = cells_of w.cells.items;
+  height = w.height;
+  row = w.row;
+  column = w.column;
+  selected = w.selected;
+  gone = cells_of w.gone.items;
+  gone_height = w.gone_height;
+}
 
--- There is room for the whole grid. The rows that are shown have cells, those that are not are blank, and the cursor may
--- stand past the last row and column. The grid that is gone has the cells of its rows alone.
+-- There is room for the whole grid. The rows that are shown have cells, those that are not are blank, and the cursor
+-- may stand past the last row and column. The grid that is gone has the cells of its rows alone.
 pub record IsKept (w : Inside) : Type 0 where
   pub room : 20400 ≤ vec_capacity w.cells
   pub shown : w.height * 80 ≤ length w.cells.items

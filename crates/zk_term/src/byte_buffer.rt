@@ -33,8 +33,8 @@ impl ByteBuffer {
         }
     }
 
-    /// Gives all bytes that wait to a target, or where a write fails a first part of them. `Failed` says that the last write
-    /// failed.
+    /// Gives all bytes that wait to a target, or where a write fails a first part of them. `Failed` says that the last
+    /// write failed.
     pub fn flush<T: Target>(&mut self, target: &mut T) -> Result<(), Failed>
         ensures all { OnOk result (Appends (T.taken target.old) (T.taken target.new) self.old) }
         ensures none { OnOk result (self.new ≡ []) }
@@ -51,8 +51,8 @@ impl ByteBuffer {
         }
     }
 
-    /// Gives all bytes that wait to a target, which then holds nothing back; or where a write fails a first part of them.
-    /// `Failed` says that the last write failed.
+    /// Gives all bytes that wait to a target, which then holds nothing back; or where a write fails a first part of
+    /// them. `Failed` says that the last write failed.
     pub fn end<T: Target>(&mut self, target: &mut T) -> Result<(), Failed>
         ensures all { OnOk result (Appends (T.taken target.old) (T.taken target.new) self.old) }
         ensures none { OnOk result (self.new ≡ []) }

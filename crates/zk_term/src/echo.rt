@@ -8,8 +8,9 @@ ghost use Rattle.zk_term.specs.Echoes.{in_line_after, shown_of, TookAll};
 use crate::source::Source;
 use crate::target::{Failed, Target, write_all};
 
-/// A source over another, which shows what it gives, where that is asked for: each byte when it is read, so that a line is
-/// shown when it is asked for and not before. A last line that has no new line gets one. What can't be shown is left out.
+/// A source over another, which shows what it gives, where that is asked for: each byte when it is read, so that a line
+/// is shown when it is asked for and not before. A last line that has no new line gets one. What can't be shown is left
+/// out.
 #[derive(Drop)]
 pub struct Echo<I, S> {
     input: I,

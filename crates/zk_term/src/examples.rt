@@ -1,8 +1,14 @@
 // Worked examples of the definitions, which refuse one that is turned together with its body.
 
-ghost use Rattle.zk_term.specs.Examples.{CharactersOfEachLength, StrayBytes, CodesOfALine, QuestionMarks, CodesByAnOwnTable, LongLines, NewLinesEndLines, ReturnsBeforeNewLines, TooManyBytes};
-ghost use Rattle.zk_term.specs.Examples.{WindowsAtTheStart, CharactersOfARow, NewLinesGoDown, TheLastColumn, BelowTheHeight, SplitsEmptyRows, HeightsOfSplits, SplitsAndTheCursor, SelectedWindows, CursorsOnTheGrid, RestsOfRows, ClearedWindows, UnsplitWindows, GridsThatAreGone, GridsThatStay, TheTallestIsKept, GridsThatAreForgotten, TextsOfRows};
-ghost use Rattle.zk_term.specs.Examples.{CharactersAreColumns, LinesBeginAnew, LinesGoOn, LongWordsStandAlone, RowsAreNotWrapped, SpacesInARow, WordsFillALine, WordsOfManyBytes};
+ghost use Rattle.zk_term.specs.guards.Examples.{CharactersOfEachLength, StrayBytes, CodesOfALine, QuestionMarks};
+ghost use Rattle.zk_term.specs.guards.Examples.{CodesByAnOwnTable, LongLines, NewLinesEndLines, ReturnsBeforeNewLines};
+ghost use Rattle.zk_term.specs.guards.Examples.{TooManyBytes, WindowsAtTheStart, CharactersOfARow, NewLinesGoDown};
+ghost use Rattle.zk_term.specs.guards.Examples.{TheLastColumn, BelowTheHeight, SplitsEmptyRows, HeightsOfSplits};
+ghost use Rattle.zk_term.specs.guards.Examples.{SplitsAndTheCursor, SelectedWindows, CursorsOnTheGrid, RestsOfRows};
+ghost use Rattle.zk_term.specs.guards.Examples.{ClearedWindows, UnsplitWindows, GridsThatAreGone, GridsThatStay};
+ghost use Rattle.zk_term.specs.guards.Examples.{TheTallestIsKept, GridsThatAreForgotten, TextsOfRows};
+ghost use Rattle.zk_term.specs.guards.Examples.{CharactersAreColumns, LinesBeginAnew, LinesGoOn, LongWordsStandAlone};
+ghost use Rattle.zk_term.specs.guards.Examples.{RowsAreNotWrapped, SpacesInARow, WordsFillALine, WordsOfManyBytes};
 
 /// The characters of bytes in UTF-8, and bytes that are none.
 pub fn characters_by_example()
@@ -27,7 +33,7 @@ pub fn lines_by_example()
 {}
 
 /// Characters in the upper window.
-#[tactic(auto, unfolding(crate::specs::Grid::on_grid, crate::specs::Grid::no_cells, crate::specs::Grid::emptied, crate::specs::Grid::cell_put, crate::specs::Windows::first_windows, crate::specs::Windows::split, crate::specs::Windows::window_selected, crate::specs::Windows::cursor_set, crate::specs::Windows::printed, crate::specs::Windows::character_printed, crate::specs::Windows::next_row, crate::specs::Windows::row_text, crate::specs::Windows::columns_from, crate::specs::Windows::without_last_blanks))]
+#[tactic(auto, unfolding(crate::proofs::guards::Opened::examples))]
 pub fn prints_by_example()
     ensures windows_at_the_start { WindowsAtTheStart }
     ensures characters_of_a_row { CharactersOfARow }
@@ -38,7 +44,7 @@ pub fn prints_by_example()
 {}
 
 /// Splits of the screen (Standard, section 8.6.1).
-#[tactic(auto, unfolding(crate::specs::Grid::on_grid, crate::specs::Grid::no_cells, crate::specs::Grid::emptied, crate::specs::Grid::cell_put, crate::specs::Windows::first_windows, crate::specs::Windows::split, crate::specs::Windows::window_selected, crate::specs::Windows::cursor_set, crate::specs::Windows::printed, crate::specs::Windows::character_printed, crate::specs::Windows::next_row, crate::specs::Windows::row_text, crate::specs::Windows::columns_from, crate::specs::Windows::without_last_blanks))]
+#[tactic(auto, unfolding(crate::proofs::guards::Opened::examples))]
 pub fn splits_by_example()
     ensures splits_empty_rows { SplitsEmptyRows }
     ensures heights_of_splits { HeightsOfSplits }
@@ -48,7 +54,7 @@ pub fn splits_by_example()
 {}
 
 /// What erases the upper window (Standard, section 8.7.3).
-#[tactic(auto, unfolding(crate::specs::Grid::on_grid, crate::specs::Grid::no_cells, crate::specs::Grid::emptied, crate::specs::Grid::cell_put, crate::specs::Windows::first_windows, crate::specs::Windows::split, crate::specs::Windows::window_selected, crate::specs::Windows::cursor_set, crate::specs::Windows::printed, crate::specs::Windows::character_printed, crate::specs::Windows::next_row, crate::specs::Windows::cleared, crate::specs::Windows::unsplit, crate::specs::Windows::line_erased, crate::specs::Windows::row_text, crate::specs::Windows::columns_from, crate::specs::Windows::without_last_blanks))]
+#[tactic(auto, unfolding(crate::proofs::guards::Opened::examples))]
 pub fn erasures_by_example()
     ensures rests_of_rows { RestsOfRows }
     ensures cleared_windows { ClearedWindows }
@@ -56,7 +62,7 @@ pub fn erasures_by_example()
 {}
 
 /// The tallest grid since one was last forgotten.
-#[tactic(auto, unfolding(crate::specs::Grid::on_grid, crate::specs::Grid::no_cells, crate::specs::Grid::emptied, crate::specs::Grid::cell_put, crate::specs::Windows::first_windows, crate::specs::Windows::split, crate::specs::Windows::window_selected, crate::specs::Windows::cursor_set, crate::specs::Windows::printed, crate::specs::Windows::character_printed, crate::specs::Windows::next_row, crate::specs::Windows::cleared, crate::specs::Windows::unsplit, crate::specs::Windows::forgotten, crate::specs::Windows::row_text, crate::specs::Windows::tallest_height, crate::specs::Windows::tallest_row_text, crate::specs::Windows::columns_from, crate::specs::Windows::without_last_blanks))]
+#[tactic(auto, unfolding(crate::proofs::guards::Opened::examples))]
 pub fn tallest_by_example()
     ensures grids_that_are_gone { GridsThatAreGone }
     ensures grids_that_stay { GridsThatStay }

@@ -8,8 +8,8 @@ use crate::target::{Failed, Target};
 use std::io::{Read, Write};
 
 /// A source over a reader, or a target over a writer. Each error of it is a failure, and so is a write
-/// that takes none of some bytes. A writer may hold bytes back until it is flushed: `flushed` says that it was, and that
-/// nothing was written since.
+/// that takes none of some bytes. A writer may hold bytes back until it is flushed: `flushed` says that it was, and
+/// that nothing was written since.
 #[derive(Drop)]
 pub struct IoDevice<T> {
     inner: T,

@@ -2,8 +2,11 @@
 
 ghost use Rattle.zk_term.specs.Characters.{CharactersAreSpelled, CharactersAreDetermined};
 ghost use Rattle.zk_term.specs.Lines.{AreLines, LinesAreGiven};
-ghost use Rattle.zk_term.specs.WindowLaws.{CharactersStandInARow, PrintsKeepTheSplit, PrintsKeepTheRowsBelow, PrintsFollowOneAnother, SplitsEmptyThePast, KeepsTheTallest, KeepsTheCursor, SpacesAtTheEndGo, ClearedRowsHaveNoText};
-ghost use Rattle.zk_term.specs.WrappingLaws.{CharactersTakeColumns, LinesAreFull, LinesAreWithin, LinesAreWrappedOneByOne, OnlySpacesBecomeNewLines, RowsStay};
+ghost use Rattle.zk_term.specs.guards.WindowLaws.{CharactersStandInARow, PrintsKeepTheSplit, PrintsKeepTheRowsBelow};
+ghost use Rattle.zk_term.specs.guards.WindowLaws.{PrintsFollowOneAnother, SplitsEmptyThePast, KeepsTheTallest};
+ghost use Rattle.zk_term.specs.guards.WindowLaws.{KeepsTheCursor, SpacesAtTheEndGo, ClearedRowsHaveNoText};
+ghost use Rattle.zk_term.specs.guards.WrappingLaws.{CharactersTakeColumns, LinesAreFull, LinesAreWithin};
+ghost use Rattle.zk_term.specs.guards.WrappingLaws.{LinesAreWrappedOneByOne, OnlySpacesBecomeNewLines, RowsStay};
 
 use crate::source::Source;
 

@@ -22,8 +22,8 @@ pub trait LineWriter {
     fn write(&mut self, bytes: &[u8])
         ensures { wrote self.old self.new bytes.now };
 
-    /// Takes note that the text at a byte address is looked at, if no write has failed before. Where it has more words, with
-    /// those of the abbreviations that it uses, than may still be looked at, that is as a write that fails.
+    /// Takes note that the text at a byte address is looked at, if no write has failed before. Where it has more words,
+    /// with those of the abbreviations that it uses, than may still be looked at, that is as a write that fails.
     fn look_at(&mut self, memory: &Memory, address: u32)
         ensures { wrote self.old self.new [] };
 
@@ -39,8 +39,8 @@ pub trait LineWriter {
     ghost late: { (a : Self) (s : List ℕ) → ended a ≡ true → wrote a a s };
 }
 
-/// A writer over a target: bytes wait, at most 1,024, and go out together where there is no room for more, and at `finish`.
-/// Once a write has failed nothing more is written to the target.
+/// A writer over a target: bytes wait, at most 1,024, and go out together where there is no room for more, and at
+/// `finish`. Once a write has failed nothing more is written to the target.
 #[derive(Drop)]
 pub struct TargetWriter<'a, T> {
     target: &'a mut T,
@@ -63,8 +63,8 @@ impl<'a, T> TargetWriter<'a, T> {
 }
 
 impl<'a, T: Target> TargetWriter<'a, T> {
-    /// Gives the target what waits, if no write has failed before. Then all that the writer was given has been written, or it
-    /// refuses.
+    /// Gives the target what waits, if no write has failed before. Then all that the writer was given has been written,
+    /// or it refuses.
     pub fn finish(&mut self) -> Result<(), Failed>
         ensures target { self.new.target.ghost_name ≡ self.old.target.ghost_name }
         ensures ended { (start : Sheet) (text : List ℕ) → start.waiting ≡ []

@@ -1,13 +1,16 @@
 // The lines of an input.
 
-ghost use Rattle.std.specs.Prelude.{◌≡◌, ◌<◌, ◌≤◌, ◌⊎◌, ◌∷◌, ◌++◌, take, List, ℕ, Bool, Option, None, Some, [], length, true, IfOk, OnErr, OnOk};
+ghost use Rattle.std.specs.Prelude.{◌≡◌, ◌<◌, ◌≤◌, ◌⊎◌, ◌∷◌, ◌++◌, take, List, ℕ, Bool, Option, None, Some, [], length};
+ghost use Rattle.std.specs.Prelude.{true, IfOk, OnErr, OnOk};
 ghost use Rattle.std.specs.List.{AllByRecursion};
 ghost use Rattle.std.specs.Str.Lines.{strip_carriage_return};
 ghost use Rattle.zk_text.specs.Extra.{ExtraTable, is_input_code};
 ghost use Rattle.zk_term.specs.Characters.{character_length, character_of, character_step, typed_code, line_codes};
 ghost use Rattle.zk_term.specs.declared.lines.InputEnd.{InputEnd};
 ghost use Rattle.zk_term.specs.Devices.{HasJust};
-ghost use Rattle.zk_term.specs.Lines.{Reading, ReadFailed, GivesEach, GivesLine, GoesBy, FailsAlone, Hears, HasInputCodes, IsOverAfter, MeetsBound, over_input, TakesByte, TakesLine, TakesAnswer};
+ghost use Rattle.zk_term.specs.Lines.{Reading, ReadFailed, GivesEach, GivesLine, GoesBy, FailsAlone, Hears};
+ghost use Rattle.zk_term.specs.Lines.{HasInputCodes, IsOverAfter, MeetsBound, over_input, TakesByte, TakesLine};
+ghost use Rattle.zk_term.specs.Lines.{TakesAnswer};
 
 use crate::source::Source;
 use crate::target::Failed;
@@ -105,7 +108,7 @@ fn code_of(character: Option<char>, extra: &Extra) -> u8
 }
 
 /// The codes of a line.
-#[tactic(auto, using(crate::proofs::Cutting::coded_none, crate::proofs::Cutting::coded_on, crate::proofs::Cutting::coded_end, crate::proofs::Cutting::coded_full))]
+#[tactic(auto, using(crate::proofs::Cutting::of_codes_of))]
 fn codes_of(bytes: &[u8], extra: &Extra) -> ArrayVec<u8, 255>
     ensures value { result.items ≡ line_codes extra.now bytes.now }
     ensures input { AllByRecursion (λ c. is_input_code c ≡ true) result.items }
@@ -216,9 +219,9 @@ impl Lines {
         Ok(self.take_ahead())
     }
 
-    /// The bytes of the next line, of a longer one the first 1,024 alone. After a last line, which no new line ends, the
-    /// input is over.
-    #[tactic(auto, using(crate::proofs::Taking::taken_on, crate::proofs::Taking::taken_line, crate::proofs::Taking::taken_last, crate::proofs::Taking::taken_end, crate::proofs::Taking::taken_failed, crate::proofs::Taking::taken_long))]
+    /// The bytes of the next line, of a longer one the first 1,024 alone. After a last line, which no new line ends,
+    /// the input is over.
+    #[tactic(auto, using(crate::proofs::Taking::of_take_line))]
     fn take_line<S: Source>(&mut self, source: &mut S) -> Result<ArrayVec<u8, KEPT>, InputEnd>
         requires { self.old.over ≡ None }
         ensures heard { GivesLine self.old (S.left source.old) self.new (S.left source.new)
@@ -264,9 +267,9 @@ impl Lines {
     /// 255th code of a line is dropped.
     ///
     /// `End` says that the last read gave no bytes. `Failed` says that the last read failed, and what had come
-    /// of a line is lost, or that no read failed and 65,536 bytes came without a new line: just so many are taken, and the
-    /// source is not asked for more. After `End` or `Failed` the answer stays the same, and after a last line without a new line it is `End`: the
-    /// source is not asked again.
+    /// of a line is lost, or that no read failed and 65,536 bytes came without a new line: just so many are taken, and
+    /// the source is not asked for more. After `End` or `Failed` the answer stays the same, and after a last line
+    /// without a new line it is `End`: the source is not asked again.
     ///
     /// `Lines` reads ahead of the line that it answers: it is to be given the same source each time.
     pub fn line<S: Source>(&mut self, source: &mut S, extra: &Extra) -> Input

@@ -1,9 +1,11 @@
 // The line that is open while a text is wrapped at words.
 
-ghost use Rattle.std.specs.Prelude.{◌≡◌, ◌<◌, ◌≤◌, ◌||◌, ◌++◌, [], ◌∷◌, length, nat_eq, if◌then◌else◌, Some, is_err, true, false, IfOk, OnOk, OnErr};
+ghost use Rattle.std.specs.Prelude.{◌≡◌, ◌<◌, ◌≤◌, ◌||◌, ◌++◌, [], ◌∷◌, length, nat_eq, if◌then◌else◌, Some, is_err};
+ghost use Rattle.std.specs.Prelude.{true, false, IfOk, OnOk, OnErr};
 ghost use Rattle.std.specs.Io.KnownBytes.{Appends};
 ghost use Rattle.zk_term.specs.Devices.{TookPart};
-ghost use Rattle.zk_term.specs.OpenLines.{Begins, BreaksLine, EndsLine, HoldsBy, HoldsOn, IsFullFor, IsOpen, rest_of_text, Takes, TakesAmongWords, TakesInLine};
+ghost use Rattle.zk_term.specs.OpenLines.{Begins, BreaksLine, EndsLine, HoldsBy, HoldsOn, IsFullFor, IsOpen};
+ghost use Rattle.zk_term.specs.OpenLines.{rest_of_text, Takes, TakesAmongWords, TakesInLine};
 ghost use Rattle.zk_term.specs.WrappedTargets.{HasTaken};
 ghost use Rattle.zk_term.specs.Wrapping.{columns, is_space, wrapped};
 
@@ -221,8 +223,8 @@ impl Line {
         }
     }
 
-    /// Gives a target what is held back, or where a write fails a first part. The line goes on: a word of which something has
-    /// gone out stays in it.
+    /// Gives a target what is held back, or where a write fails a first part. The line goes on: a word of which
+    /// something has gone out stays in it.
     pub fn flush<T: Target>(&mut self, target: &mut T) -> Result<(), Failed>
         ensures width { self.new.width ≡ self.old.width }
         ensures kind { self.new.kind ≡ self.old.kind }

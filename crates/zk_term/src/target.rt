@@ -45,7 +45,8 @@ pub trait Target {
         None
     }
 
-    /// Takes note that so many words of texts are looked at. Where they are more than are left, that is as a write that fails.
+    /// Takes note that so many words of texts are looked at. Where they are more than are left, that is as a write that
+    /// fails.
     fn spend(&mut self, _words: u32) -> Result<(), Failed>
         ensures bytes { Keeps (taken self.old) (taken self.new) }
         ensures failed { failed self.new ≡ (is_err result || failed self.old) }
@@ -54,8 +55,8 @@ pub trait Target {
         Ok(())
     }
 
-    /// What comes next begins a line, since the open one was ended elsewhere, as by a line that was typed at a terminal.
-    /// Nothing is held back.
+    /// What comes next begins a line, since the open one was ended elsewhere, as by a line that was typed at a
+    /// terminal. Nothing is held back.
     fn begin_line(&mut self)
         requires whole { whole self.old }
         ensures bytes { taken self.new ≡ taken self.old }
@@ -81,7 +82,8 @@ pub fn write_all<T: Target>(target: &mut T, bytes: &[u8]) -> Result<(), Failed>
     Ok(())
 }
 
-/// Writes a character as UTF-8, or where a write fails a first part of its bytes. `Failed` says that the last write failed.
+/// Writes a character as UTF-8, or where a write fails a first part of its bytes. `Failed` says that the last write
+/// failed.
 pub fn write_char<T: Target>(target: &mut T, c: char) -> Result<(), Failed>
     ensures all { OnOk result (Appends (T.taken target.old) (T.taken target.new) (encode_utf8 c)) }
     ensures part { OnErr result

@@ -1,7 +1,11 @@
 // The upper window: a grid of characters with a cursor.
 
-ghost use Rattle.std.specs.Prelude.{◌≡◌, ◌≤◌, ◌<◌, ◌&&◌, ◌*◌, ℕ, IfOk, if◌then◌else◌, length, nat_le, nat_lt, slice_index_or, vec_capacity};
-ghost use Rattle.zk_term.specs.Windows.{first_windows, homed, past, kept_if_lower, split, window_selected, cleared, unsplit, forgotten, line_erased, cursor_set, next_row, character_put, character_printed, row_text_of, row_text, tallest_height, tallest_row_text, without_last_blanks};
+ghost use Rattle.std.specs.Prelude.{◌≡◌, ◌≤◌, ◌<◌, ◌&&◌, ◌*◌, ℕ, IfOk, if◌then◌else◌, length, nat_le, nat_lt};
+ghost use Rattle.std.specs.Prelude.{slice_index_or, vec_capacity};
+ghost use Rattle.zk_term.specs.Windows.{first_windows, homed, past, kept_if_lower, split, window_selected, cleared};
+ghost use Rattle.zk_term.specs.Windows.{unsplit, forgotten, line_erased, cursor_set, next_row, character_put};
+ghost use Rattle.zk_term.specs.Windows.{character_printed, row_text_of, row_text, tallest_height, tallest_row_text};
+ghost use Rattle.zk_term.specs.Windows.{without_last_blanks};
 ghost use Rattle.zk_term.specs.Grid.{emptied};
 ghost use Rattle.zk_term.specs.Places.{cell_number, cells_of};
 

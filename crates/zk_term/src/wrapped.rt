@@ -2,7 +2,8 @@
 
 ghost use Rattle.std.specs.Prelude.{◌≡◌, ◌<◌, ◌≤◌, ◌||◌, [], length, is_err, IsSome, IfOk, OnOk};
 ghost use Rattle.std.specs.Io.KnownBytes.{Keeps, WriteAppends};
-ghost use Rattle.zk_term.specs.WrappedTargets.{from_a_line, StaysOpen, HasFlushed, HasTaken, HasWritten, HoldsNothing, in_open_line, told, width_of};
+ghost use Rattle.zk_term.specs.WrappedTargets.{from_a_line, StaysOpen, HasFlushed, HasTaken, HasWritten, HoldsNothing};
+ghost use Rattle.zk_term.specs.WrappedTargets.{in_open_line, told, width_of};
 
 use crate::open_line::Line;
 use crate::target::{Failed, Target};

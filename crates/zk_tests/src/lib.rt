@@ -1,6 +1,6 @@
-// Tests of calls that ask something of their caller: that what other calls say is enough for it, which no clause says and no
-// run shows. They stand in a crate of their own, since the test run of a crate proves all of it once more. All other tests
-// stand in conformance/tests.
+// Tests of calls that ask something of their caller: that what other calls say is enough for it, which no clause says
+// and no run shows. They stand in a crate of their own, since the test run of a crate proves all of it once more. All
+// other tests stand in conformance/tests.
 #![tactic(auto)]
 
 #[cfg(test)]

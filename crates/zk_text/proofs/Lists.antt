@@ -1,5 +1,6 @@
 -- Items of a list of numbers.
-use Rattle.std.proofs.Common.{◌≡◌, ◌≤◌, ◌<◌, ◌⊎◌, inl, inr, ℕ, ◌+◌, List, ◌∷◌, length, drop, get_or, slice_get, unwrap_or, Some, None, drop-cons, add-one, refl}
+use Rattle.std.proofs.Common.{◌≡◌, ◌≤◌, ◌<◌, ◌⊎◌, inl, inr, ℕ, ◌+◌, List, ◌∷◌, length, drop, get_or, slice_get}
+use Rattle.std.proofs.Common.{unwrap_or, Some, None, drop-cons, add-one, refl}
 use Rattle.std.proofs.lemmas.Option.{slice_get_within, get_or_from_slice_get, slice_get_cases, unwrap_or-slice_get}
 
 -- an item that is there is the head of the rest
@@ -13,7 +14,8 @@ drop_item xs i x h =
 pub past : (xs : List ℕ) (i : ℕ) → slice_get xs i ≡ None → length xs ≤ i
 past xs i h = go (slice_get_cases xs i).1
   where
-    go : (((x : ℕ) × (i < length xs) × (slice_get xs i ≡ Some x) × (get_or xs i x ≡ x)) ⊎ ((length xs ≤ i) × (slice_get xs i ≡ None))) → length xs ≤ i
+    go : (((x : ℕ) × (i < length xs) × (slice_get xs i ≡ Some x) × (get_or xs i x ≡ x))
+        ⊎ ((length xs ≤ i) × (slice_get xs i ≡ None))) → length xs ≤ i
     go (inl p) = let there : slice_get xs i ≡ Some p.0 = p.2 in absurd cc
     go (inr p) = p.0
 

@@ -17,7 +17,8 @@ shown_all-one t u = append-nil (shown t u)
 pub shown_all-append : (t : ExtraTable) (us vs : List Unit) → shown_all t (us ++ vs) ≡ shown_all t us ++ shown_all t vs
 unfolding shown_all
 shown_all-append t [] vs = refl
-shown_all-append t (u ∷ us) vs = ap (λ (x : List ℕ). shown t u ++ x) (shown_all-append t us vs) ∙ sym (append_assoc (shown t u) (shown_all t us) (shown_all t vs))
+shown_all-append t (u ∷ us) vs = ap (λ (x : List ℕ). shown t u ++ x) (shown_all-append t us vs)
+    ∙ sym (append_assoc (shown t u) (shown_all t us) (shown_all t vs))
 
 pub shown_in_parts : ShownInParts
 shown_in_parts = shown_all-append

@@ -1,5 +1,6 @@
 -- How many words are walked where a text is printed.
-use Rattle.std.proofs.Common.{◌≡◌, ◌∙◌, ◌≤◌, ◌<◌, ℕ, ◌+◌, ◌-◌, List, [], ◌∷◌, ◌++◌, length, drop, Option, Some, None, Bool, true, false, nat_le, nat_lt, refl, sym, ap, arith, if◌then◌else◌}
+use Rattle.std.proofs.Common.{◌≡◌, ◌∙◌, ◌≤◌, ◌<◌, ℕ, ◌+◌, ◌-◌, List, [], ◌∷◌, ◌++◌, length, drop, Option, Some, None}
+use Rattle.std.proofs.Common.{Bool, true, false, nat_le, nat_lt, refl, sym, ap, arith, if◌then◌else◌}
 use Rattle.std.proofs.lemmas.Bool.Decides.{nat_tests}
 use Rattle.std.proofs.lemmas.List.{length-drop}
 use Rattle.zk_mem.specs.Header.{word_in}
@@ -22,7 +23,8 @@ run_there : (m : MemoryMap) (a w : ℕ) → code_word_at m a ≡ Some w → run_
 unfolding run_at run_in code_word_at after
 run_there m a w h = go (nat_lt (a + 1) (length m.bytes)) refl
   where
-    go : (b : Bool) → nat_lt (a + 1) (length m.bytes) ≡ b → run_in (drop a m.bytes) ≡ w ∷ (if nat_le 32768 w then [] else run_in (drop (a + 2) m.bytes))
+    go : (b : Bool) → nat_lt (a + 1) (length m.bytes) ≡ b → run_in (drop a m.bytes) ≡ w
+        ∷ (if nat_le 32768 w then [] else run_in (drop (a + 2) m.bytes))
     go true e =
         let room : a + 1 < length m.bytes = grind (arith, nat_tests) in
         let word : word_in m.bytes a ≡ w = (let some = sym (by_room m a true e) ∙ h in cc) in
@@ -55,12 +57,16 @@ run_next m a w e low = let test : nat_le 32768 w ≡ false = grind (arith, nat_t
 
 -- ---- pieces
 
-pub before_length : (m : MemoryMap) (o : Option Piece) (ps : List Piece) → pieces_length m (piece_before o ps) ≡ some_length m o + pieces_length m ps
+pub before_length : (m : MemoryMap) (o : Option Piece) (ps : List Piece)
+    → pieces_length m (piece_before o ps) ≡ some_length m o + pieces_length m ps
 unfolding pieces_length
 before_length m None ps = omega arith
 before_length m (Some p) ps = refl
 
-pub passed : (m : MemoryMap) (left rest : ℕ) (h next : Pending) (c : ℕ) (o : Option Piece) (zs : List ℕ) → pieces (held_back h ++ c ∷ zs) ≡ piece_before o (pieces (held_back next ++ zs)) → rest ≡ left - some_length m o → left - named_length m (held_back h ++ c ∷ zs) ≡ rest - named_length m (held_back next ++ zs)
+pub passed : (m : MemoryMap) (left rest : ℕ) (h next : Pending) (c : ℕ) (o : Option Piece) (zs : List ℕ)
+    → pieces (held_back h ++ c ∷ zs) ≡ piece_before o (pieces (held_back next ++ zs))
+    → rest ≡ left - some_length m o → left - named_length m (held_back h ++ c ∷ zs) ≡ rest - named_length m
+    (held_back next ++ zs)
 passed m left rest h next c o zs e is =
     let both = ap (pieces_length m) e ∙ before_length m o (pieces (held_back next ++ zs)) in
     omega (arith, both, is)
@@ -101,8 +107,11 @@ append_none (held.UpperHalf high) = refl
 pub from_nothing : (m : MemoryMap) (h : Pending) (left : ℕ) → left_from m h [] left ≡ left
 from_nothing m h left = let none = ap (named_length m) (append_none h) ∙ nothing_named m h in omega (arith, none)
 
-pub from_word : (m : MemoryMap) (h next : Pending) (w : ℕ) (ws us : List ℕ) (left less rest : ℕ) → us ≡ w ∷ ws → less ≡ left - 1 → less - named_length m (held_back h ++ z_characters (w ∷ ws)) ≡ rest - named_length m (held_back next ++ z_characters ws) → left_from m h us left ≡ left_from m next ws rest
-from_word m h next w ws us left less rest are one same = ap (λ (vs : List ℕ). left_from m h vs left) are ∙ omega (arith, one, same)
+pub from_word : (m : MemoryMap) (h next : Pending) (w : ℕ) (ws us : List ℕ) (left less rest : ℕ) → us ≡ w ∷ ws
+    → less ≡ left - 1 → less - named_length m (held_back h ++ z_characters (w ∷ ws)) ≡ rest - named_length m
+    (held_back next ++ z_characters ws) → left_from m h us left ≡ left_from m next ws rest
+from_word m h next w ws us left less rest are one same =
+    ap (λ (vs : List ℕ). left_from m h vs left) are ∙ omega (arith, one, same)
 
 -- a word more
 pub run_some : (m : MemoryMap) (a w : ℕ) → code_word_at m a ≡ Some w → (ws : List ℕ) × (run_at m a ≡ w ∷ ws)

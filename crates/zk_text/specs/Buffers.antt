@@ -22,6 +22,10 @@ holds_nothing a = sym (append-nil a)
 pub holds_twice : (a b c : List Unit) (s t : List Unit) → Holds a b s → Holds b c t → Holds a c (s ++ t)
 holds_twice a b c s t h k = k ∙ joined_after a b s t h
 
-pub holds_late : (most : ℕ) (a b c : List Unit) (s t : List Unit) → Holds a b s → HoldsFirst most b c t → HoldsFirst most a c (s ++ t)
-holds_late most a b c s t h k =
-    (k.0 ∙ ap (take most) (joined_after a b s t h), subst (λ (us : List Unit). most < length us) (joined_after a b s t h) k.1)
+pub holds_late : (most : ℕ) (a b c : List Unit) (s t : List Unit) → Holds a b s → HoldsFirst most b c t
+    → HoldsFirst most a c (s ++ t)
+holds_late most a b c s t h k = (
+  k.0 ∙ ap (take most) (joined_after a b s t h),
+  subst (λ (us : List Unit). most < length us)
+      (joined_after a b s t h) k.1,
+)

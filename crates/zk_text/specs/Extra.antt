@@ -1,5 +1,6 @@
 -- The extra characters of ZSCII (Standard, section 3.8.5).
-use Rattle.std.specs.Prelude.{Bool, ◌&&◌, ◌||◌, ℕ, zero, suc, ◌+◌, ◌-◌, ◌*◌, List, [], ◌∷◌, Option, Some, None, Result, Ok, Err, if◌then◌else◌, ◌==◌, nat_le, nat_lt, slice_get, take, option_and_then, unwrap_or}
+use Rattle.std.specs.Prelude.{Bool, ◌&&◌, ◌||◌, ℕ, zero, suc, ◌+◌, ◌-◌, ◌*◌, List, [], ◌∷◌, Option, Some, None, Result}
+use Rattle.std.specs.Prelude.{Ok, Err, if◌then◌else◌, ◌==◌, nat_le, nat_lt, slice_get, take, option_and_then, unwrap_or}
 use Rattle.zk_mem.specs.Header.{header_of, word_in}
 use Rattle.zk_mem.specs.Map.{MemoryMap, readable_end, byte_at, word_at}
 use Rattle.zk_mem.specs.declared.fault.Fault.{Fault}

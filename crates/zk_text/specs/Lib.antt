@@ -13,6 +13,4 @@ pub mod Shown
 pub mod Keys
 pub mod Buffers
 pub mod Laws
-pub mod TableLaws
-pub mod KeyLaws
-pub mod Examples
+pub mod guards

@@ -1,5 +1,6 @@
 -- The pieces into which the Z-characters of a text are cut (Standard, sections 3.2 to 3.6).
-use Rattle.std.specs.Prelude.{ℕ, zero, suc, ◌+◌, ◌*◌, ◌-◌, List, [], ◌∷◌, Option, Some, None, nat_lt, ◌==◌, if◌then◌else◌}
+use Rattle.std.specs.Prelude.{ℕ, zero, suc, ◌+◌, ◌*◌, ◌-◌, List, [], ◌∷◌, Option, Some, None, nat_lt, ◌==◌}
+use Rattle.std.specs.Prelude.{if◌then◌else◌}
 use Rattle.zk_text.specs.declared.alphabet.Row.TheVariants.{A0, A1, A2}
 use Rattle.zk_text.specs.declared.pieces.Piece.{Piece}
 use Rattle.zk_text.specs.declared.pieces.Piece.TheVariants.{Letter, Code, Abbreviation}

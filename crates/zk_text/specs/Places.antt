@@ -1,5 +1,6 @@
 -- Places in a text, and what is still to come of it there (Standard, sections 3.2 and 3.3).
-use Rattle.std.specs.Prelude.{◌≡◌, ◌≤◌, ◌<◌, ⊤, ℕ, ◌+◌, ◌*◌, ◌-◌, List, [], ◌++◌, ◌∷◌, length, drop, Bool, true, false, IfSome, Option, Some, None, Ok}
+use Rattle.std.specs.Prelude.{◌≡◌, ◌≤◌, ◌<◌, ⊤, ℕ, ◌+◌, ◌*◌, ◌-◌, List, [], ◌++◌, ◌∷◌, length, drop, Bool, true, false}
+use Rattle.std.specs.Prelude.{IfSome, Option, Some, None, Ok}
 use Rattle.zk_mem.specs.Map.{MemoryMap}
 use Rattle.zk_mem.specs.Results.{◌>>=◌}
 use Rattle.zk_mem.specs.Words.{words_at}
@@ -16,7 +17,8 @@ use Rattle.zk_text.specs.Meaning.{Units, abbreviation, joined, meaning, no_abbre
 use Rattle.zk_text.specs.Reading.{held_back}
 use Rattle.zk_text.specs.Words.{z_characters}
 
--- what is still to come of a text from a word on, of which so many Z-characters were taken, with those that are held back
+-- what is still to come of a text from a word on, of which so many Z-characters were taken, with those that are held
+-- back
 abbrev pub left_from : MemoryMap → (ℕ → Units) → ℕ → ℕ → Pending → Units
 left_from m expand at taken h =
     past_end (words_at m at) >>= λ ws. meaning m expand (held_back h ++ drop taken (z_characters ws))
@@ -24,7 +26,8 @@ left_from m expand at taken h =
 -- the same, and where it is the text of an abbreviation, what comes after that
 abbrev pub left_in : MemoryMap → Option After → ℕ → ℕ → Pending → Units
 left_in m None at taken h = left_from m (abbreviation m) at taken h
-left_in m (Some a) at taken h = joined (left_from m no_abbreviation at taken h) (left_from m (abbreviation m) a.at a.taken held.Nothing)
+left_in m (Some a) at taken h =
+    joined (left_from m no_abbreviation at taken h) (left_from m (abbreviation m) a.at a.taken held.Nothing)
 
 -- what is still to come of a text from a place on
 unfoldable pub left : MemoryMap → Place → Units
@@ -81,13 +84,14 @@ count_of (Some ws) = length ws
 -- each of a text's Z-characters may name an abbreviation, whose text has no more words than the story has bytes
 abbrev pub work_in : MemoryMap → Option After → ℕ → ℕ → ℕ
 work_in m None at taken = (4 * count_of (words_at m at) - taken) * (length m.bytes + 1)
-work_in m (Some a) at taken = (4 * count_of (words_at m a.at) - a.taken) * (length m.bytes + 1) + count_of (words_at m at)
+work_in m (Some a) at taken =
+    (4 * count_of (words_at m a.at) - a.taken) * (length m.bytes + 1) + count_of (words_at m at)
 
 unfoldable pub work_left : MemoryMap → Place → ℕ
 work_left m p = work_in m p.after p.at p.taken
 
--- a place is at the start of what an abbreviation stands for, and after that so many Z-characters of the word that names it
--- were taken
+-- a place is at the start of what an abbreviation stands for, and after that so many Z-characters of the word that
+-- names it were taken
 pub record HasEntered (m : MemoryMap) (n taken : ℕ) (old new : Place) : Type 0 where
   pub there : abbreviation m n ≡ left_from m no_abbreviation new.at 0 held.Nothing
   pub taken_is : new.taken ≡ 0
@@ -97,9 +101,12 @@ pub record HasEntered (m : MemoryMap) (n taken : ℕ) (old new : Place) : Type 0
 -- the last word was passed
 abbrev pub HasEnded : Option After → Place → Bool → Type 0
 HasEnded None new on = on ≡ false
-HasEnded (Some a) new on = (on ≡ true) × (new ≡ record { at = a.at; taken = a.taken; held = held.Nothing; after = None })
+HasEnded (Some a) new on =
+    (on ≡ true) × (new ≡ record { at = a.at; taken = a.taken; held = held.Nothing; after = None })
 
--- a word was passed: the next one is at hand, or where the text goes on after an abbreviation that ends there; or the text ends
+-- a word was passed: the next one is at hand, or where the text goes on after an abbreviation that ends there; or the
+-- text ends
 abbrev pub HasPassed : ℕ → Pending → Place → Place → Bool → Type 0
-HasPassed w h old new on = (w < 32768 → (on ≡ true) × (new ≡ record { at = old.at + 2; taken = 0; held = h; after = old.after }))
+HasPassed w h old new on =
+    (w < 32768 → (on ≡ true) × (new ≡ record { at = old.at + 2; taken = 0; held = h; after = old.after }))
     × (32768 ≤ w → HasEnded old.after new on)

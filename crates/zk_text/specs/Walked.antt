@@ -1,6 +1,7 @@
 -- How many words are walked where a text is printed: its own, and those of each abbreviation that it uses (Standard,
 -- sections 3.2 and 3.3).
-use Rattle.std.specs.Prelude.{ℕ, ◌+◌, ◌*◌, List, [], ◌∷◌, length, drop, Option, Some, None, Result, Ok, Err, nat_le, if◌then◌else◌}
+use Rattle.std.specs.Prelude.{ℕ, ◌+◌, ◌*◌, List, [], ◌∷◌, length, drop, Option, Some, None, Result, Ok, Err, nat_le}
+use Rattle.std.specs.Prelude.{if◌then◌else◌}
 use Rattle.zk_mem.specs.Header.{header_of}
 use Rattle.zk_mem.specs.Map.{MemoryMap, word_at}
 use Rattle.zk_mem.specs.declared.fault.Fault.{Fault}

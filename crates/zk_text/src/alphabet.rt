@@ -36,7 +36,7 @@ fn start_of(row: Row) -> u8
 }
 
 /// A code of the 78 that the alphabets have, A0 first.
-#[tactic(auto, unfolding(zk_mem::specs::Map::cell_at, crate::specs::Standard::standard_letters), using(crate::proofs::Lists::read_or))]
+#[tactic(auto, unfolding(crate::proofs::Opened::in_code_at), using(crate::proofs::Lists::read_or))]
 fn code_at(memory: &Memory, table: Option<u16>, index: u16) -> u8
     ensures { result ≡ letter_code memory.now table index }
 {

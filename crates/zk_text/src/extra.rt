@@ -3,7 +3,8 @@
 ghost use Rattle.std.specs.Prelude.{◌≡◌, ◌≤◌, None, IsTrue, IfSome, nat_lt, slice_get};
 ghost use Rattle.std.specs.List.{list_all};
 ghost use Rattle.zk_text.specs.Reading.{words_of, IsInside};
-ghost use Rattle.zk_text.specs.Extra.{unicode_table, words_at_table, own_characters, characters, character, is_input_code, code_of, lower_code};
+ghost use Rattle.zk_text.specs.Extra.{unicode_table, words_at_table, own_characters, characters, character};
+ghost use Rattle.zk_text.specs.Extra.{is_input_code, code_of, lower_code};
 
 use std::marker::Model;
 use zk_mem::memory::Memory;
@@ -155,7 +156,7 @@ impl<'a> Extra<'a> {
     }
 
     /// The least ZSCII code of a character, from 32 to 126 or from 155 to 251, where it has one.
-    #[tactic(auto, unfolding(crate::specs::Extra::code_of), using(crate::proofs::Tables::code_here, crate::proofs::Tables::code_on, crate::proofs::Tables::code_end, crate::proofs::Tables::code_limit))]
+    #[tactic(auto, unfolding(crate::specs::Extra::code_of), using(crate::proofs::Tables::of_from_char))]
     pub fn from_char(&self, character: u32) -> Option<u8>
         ensures value { result ≡ code_of self.now character }
         ensures input { IfSome result (λ code. IsTrue (is_input_code code)) }
@@ -178,7 +179,7 @@ impl<'a> Extra<'a> {
 
     /// The code of a letter in lower case, where the code is that of a capital: A to Z, and the
     /// extra letters of the Standard where those are in force. Other codes stay.
-    #[tactic(auto, using(crate::proofs::Lower::lower_capital, crate::proofs::Lower::below_capitals, crate::proofs::Lower::above_capitals, crate::proofs::Lower::lower_own))]
+    #[tactic(auto, using(crate::proofs::Lower::of_lower))]
     pub fn lower(&self, code: u8) -> u8
         ensures { result ≡ lower_code self.now code }
     {

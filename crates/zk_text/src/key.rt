@@ -9,7 +9,7 @@ use arrayvec::ArrayVec;
 use zk_mem::memory::Memory;
 
 /// The first Z-character, from one on, that is a letter of an alphabet.
-#[tactic(auto, using(crate::proofs::Spells::place_on, crate::proofs::Spells::place_here, crate::proofs::Spells::place_none))]
+#[tactic(auto, using(crate::proofs::Spells::of_find_from))]
 fn find_from(memory: &Memory, alphabet: Alphabet, row: Row, code: u8, from: u8) -> Option<u8>
     requires alphabet { alphabet.table ≡ alphabet_table memory.now }
     requires from { from ≤ 32 }
@@ -83,7 +83,7 @@ fn put_letter(
 }
 
 /// The Z-characters of a key.
-#[tactic(auto, using(crate::proofs::Spells::spell_on, crate::proofs::Spells::spell_end, crate::proofs::Spells::five_on, crate::proofs::Spells::five_end, crate::proofs::Spells::key_length))]
+#[tactic(auto, using(crate::proofs::Spells::of_characters_of_key))]
 fn characters_of_key(memory: &Memory, text: &[u8], most: usize) -> ArrayVec<u8, 9>
     requires { most ≤ 9 }
     ensures value { result.items ≡ key_characters memory.now most text.now }

@@ -1,8 +1,13 @@
 // What holds of texts and of extra characters.
 
-ghost use Rattle.zk_text.specs.Laws.{SpaceIsPiece, LetterIsPiece, A1IsPiece, A2IsPiece, CodeIsPiece, AbbreviationIsPiece, ShiftShowsNothing, EndIsCut, NestedIsFault, OthersMean, CodeIsLeast, CharacterHasCode, ShownInParts};
-ghost use Rattle.zk_text.specs.KeyLaws.{PlaceIsFirst, A2PlaceIsFirst, SpaceIsZero, NewLineIsSeven, SpellingByCases, SpellingsMean, KeyMeans, KeyIsText, KeyReads};
-ghost use Rattle.zk_text.specs.TableLaws.{A0IsSmall, A1IsCapital, A2HasDigits, A2HasNewLine, ExtraIsBeyondAscii, CodesDiffer, SmallIsAbove, CapitalHasSmall, LowerIsSmall, OthersStay, OwnLowersAscii, LowerOfA1, LowerTwice};
+ghost use Rattle.zk_text.specs.Laws.{SpaceIsPiece, LetterIsPiece, A1IsPiece, A2IsPiece, CodeIsPiece};
+ghost use Rattle.zk_text.specs.Laws.{AbbreviationIsPiece, ShiftShowsNothing, EndIsCut, NestedIsFault, OthersMean};
+ghost use Rattle.zk_text.specs.Laws.{CodeIsLeast, CharacterHasCode, ShownInParts};
+ghost use Rattle.zk_text.specs.guards.KeyLaws.{PlaceIsFirst, A2PlaceIsFirst, SpaceIsZero, NewLineIsSeven};
+ghost use Rattle.zk_text.specs.guards.KeyLaws.{SpellingByCases, SpellingsMean, KeyMeans, KeyIsText, KeyReads};
+ghost use Rattle.zk_text.specs.guards.TableLaws.{A0IsSmall, A1IsCapital, A2HasDigits, A2HasNewLine, ExtraIsBeyondAscii};
+ghost use Rattle.zk_text.specs.guards.TableLaws.{CodesDiffer, SmallIsAbove, CapitalHasSmall, LowerIsSmall, OthersStay};
+ghost use Rattle.zk_text.specs.guards.TableLaws.{OwnLowersAscii, LowerOfA1, LowerTwice};
 
 /// A list of Z-characters is cut into these pieces (Z-Machine Standards Document 1.1, sections 3.2
 /// to 3.6). The cases cover each list.
@@ -20,7 +25,7 @@ pub fn pieces_by_cases()
 
 /// An abbreviation's text has a meaning exactly where it uses no abbreviation (Standard, section
 /// 3.3.1).
-#[tactic(auto, using(crate::proofs::Cases::nested_is_fault, crate::proofs::Cases::others_mean))]
+#[tactic(auto, using(crate::proofs::guards::Cases::nested_is_fault, crate::proofs::guards::Cases::others_mean))]
 pub fn abbreviations_are_plain()
     ensures nested { NestedIsFault }
     ensures plain { OthersMean }
@@ -41,7 +46,7 @@ pub fn shown_in_parts()
 {}
 
 /// The alphabets of the Standard (sections 3.5.3 and 3.5.5.1).
-#[tactic(auto, using(crate::proofs::Standard::a0_is_small, crate::proofs::Standard::a1_is_capital, crate::proofs::Standard::a2_has_digits, crate::proofs::Standard::a2_has_new_line))]
+#[tactic(auto, using(crate::proofs::guards::Standard::of_alphabets_are_standard))]
 pub fn alphabets_are_standard()
     ensures small { A0IsSmall }
     ensures capital { A1IsCapital }
@@ -50,7 +55,7 @@ pub fn alphabets_are_standard()
 {}
 
 /// Under the table of the Standard each character has one code.
-#[tactic(auto, using(crate::proofs::Standard::extra_is_beyond_ascii, crate::proofs::Standard::codes_differ))]
+#[tactic(auto, using(crate::proofs::guards::Standard::extra_characters))]
 pub fn standard_codes_differ()
     ensures ascii { ExtraIsBeyondAscii }
     ensures differ { CodesDiffer }
@@ -58,7 +63,7 @@ pub fn standard_codes_differ()
 
 /// Codes in lower case: each capital, and only a capital, becomes its small letter, by Unicode's
 /// numbers. Under a story's own table A to Z alone change.
-#[tactic(auto, using(crate::proofs::LowerLaws::small_is_above, crate::proofs::LowerLaws::capital_has_small, crate::proofs::LowerLaws::lower_is_small, crate::proofs::LowerLaws::others_stay, crate::proofs::LowerLaws::own_lowers_ascii, crate::proofs::LowerLaws::lower_of_a1, crate::proofs::LowerLaws::lower_twice))]
+#[tactic(auto, using(crate::proofs::guards::LowerLaws::of_lower_is_of_capitals))]
 pub fn lower_is_of_capitals()
     ensures above { SmallIsAbove }
     ensures all { CapitalHasSmall }
@@ -71,14 +76,14 @@ pub fn lower_is_of_capitals()
 
 /// The place of a letter is the first Z-character that stands for it: of 6 to 31 in A0 and A1, of 7
 /// to 31 in A2.
-#[tactic(auto, using(crate::proofs::Places::place_is_first, crate::proofs::Places::a2_place_is_first))]
+#[tactic(auto, using(crate::proofs::guards::Places::place_is_first, crate::proofs::guards::Places::a2_place_is_first))]
 pub fn places_are_first()
     ensures place { PlaceIsFirst }
     ensures a2 { A2PlaceIsFirst }
 {}
 
 /// What is spelled for a key, read as a text, means the letters of the word.
-#[tactic(auto, using(crate::proofs::SpellLaws::spellings_mean, crate::proofs::SpellLaws::key_means, crate::proofs::SpellLaws::space_is_zero, crate::proofs::SpellLaws::new_line_is_seven, crate::proofs::SpellLaws::spelling_by_cases))]
+#[tactic(auto, using(crate::proofs::guards::SpellLaws::of_keys_mean_their_words))]
 pub fn keys_mean_their_words()
     ensures spelled { SpellingsMean }
     ensures key { KeyMeans }
@@ -88,7 +93,7 @@ pub fn keys_mean_their_words()
 {}
 
 /// A key is itself a text, of its Z-characters: where nothing is cut off it means the word.
-#[tactic(auto, using(crate::proofs::KeyText::key_is_text, crate::proofs::KeyText::key_reads))]
+#[tactic(auto, using(crate::proofs::guards::KeyText::key_is_text, crate::proofs::guards::KeyText::key_reads))]
 pub fn keys_are_texts()
     ensures text { KeyIsText }
     ensures reads { KeyReads }

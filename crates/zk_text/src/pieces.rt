@@ -57,8 +57,8 @@ fn begin(character: u8) -> (Pending, Option<Piece>)
     }
 }
 
-/// The piece that a Z-character is by itself: a letter of A0 or a space, where nothing is held back. Most are, so that this
-/// is asked first.
+/// The piece that a Z-character is by itself: a letter of A0 or a space, where nothing is held back. Most are, so that
+/// this is asked first.
 #[tactic(auto, unfolding(crate::specs::Pieces::pieces_past))]
 #[inline(always)]
 pub(crate) fn alone(held: Pending, character: u8) -> Option<Piece>

@@ -1,11 +1,13 @@
 // The units of a text, given to a sink from any place of the text on.
 
-ghost use Rattle.std.specs.Prelude.{◌≡◌, ◌≤◌, ◌<◌, ◌+◌, ◌∷◌, ◌++◌, [], List, ℕ, Bool, false, true, Ok, None, Some, IsOk, IfErr, IfOk, OnOk, OnErr, drop};
+ghost use Rattle.std.specs.Prelude.{◌≡◌, ◌≤◌, ◌<◌, ◌+◌, ◌∷◌, ◌++◌, [], List, ℕ, Bool, false, true, Ok, None, Some};
+ghost use Rattle.std.specs.Prelude.{IsOk, IfErr, IfOk, OnOk, OnErr, drop};
 ghost use Rattle.zk_mem.specs.Map.{MemoryMap, code_word_at};
 ghost use Rattle.zk_text.specs.Alphabets.{alphabet_table, letter_of};
 ghost use Rattle.zk_text.specs.Meaning.{Units, abbreviation, meaning, value, values};
 ghost use Rattle.zk_text.specs.Pieces.{pieces};
-ghost use Rattle.zk_text.specs.Places.{Gives, HasEntered, HasPassed, IsPlace, IsUpTo, Refuses, first_place, left, rest_met, rest_on, rest_read, work_left};
+ghost use Rattle.zk_text.specs.Places.{Gives, HasEntered, HasPassed, IsPlace, IsUpTo, Refuses, first_place, left};
+ghost use Rattle.zk_text.specs.Places.{rest_met, rest_on, rest_read, work_left};
 ghost use Rattle.zk_text.specs.Reading.{held_back};
 ghost use Rattle.zk_text.specs.Words.{z_characters};
 ghost use Rattle.zk_text.specs.declared.unit.Unit.{Unit};
@@ -16,8 +18,8 @@ use crate::sink::{Sink, SinkFault};
 use crate::unit::Unit;
 use zk_mem::memory::Memory;
 
-/// Where a text goes on after an abbreviation: the byte address of the word that names it, and how many of its Z-characters
-/// were taken, from 1 to 3.
+/// Where a text goes on after an abbreviation: the byte address of the word that names it, and how many of its
+/// Z-characters were taken, from 1 to 3.
 #[derive(Clone, Copy, Drop)]
 pub(crate) struct After {
     at: u32,
@@ -209,8 +211,8 @@ impl Place {
         };
     }
 
-    /// Goes on after a word: at the next one, or where the text goes on after the abbreviation that ends there. Says whether
-    /// the text goes on.
+    /// Goes on after a word: at the next one, or where the text goes on after the abbreviation that ends there. Says
+    /// whether the text goes on.
     #[inline(always)]
     fn pass(&mut self, word: u16, held: Pending) -> bool
         requires { self.old.at < 524288 }
@@ -348,8 +350,8 @@ pub(crate) fn print_rest<S: Sink>(
     }
 }
 
-/// Gives a sink what is still to come of a text, up to so many words of it. Says whether the text goes on, and then stands at
-/// the place where it does.
+/// Gives a sink what is still to come of a text, up to so many words of it. Says whether the text goes on, and then
+/// stands at the place where it does.
 pub fn print_part<S: Sink>(
     memory: &Memory,
     place: &mut Place,

@@ -1,11 +1,13 @@
 // The faults of all texts of a story, in one sweep: a text has those of its rest, and all texts share their rests.
 
-ghost use Rattle.std.specs.Prelude.{◌≡◌, ◌≤◌, ◌+◌, ◌∷◌, ◌++◌, [], List, ℕ, true, IfOk, Some, is_none, length, slice_get};
+ghost use Rattle.std.specs.Prelude.{◌≡◌, ◌≤◌, ◌+◌, ◌∷◌, ◌++◌, [], List, ℕ, true, IfOk, Some, is_none, length};
+ghost use Rattle.std.specs.Prelude.{slice_get};
 ghost use Rattle.std.specs.List.{list_all};
 ghost use Rattle.zk_mem.specs.Map.{MemoryMap, code_word_at};
 ghost use Rattle.zk_text.specs.Meaning.{abbreviation, text_units};
 ghost use Rattle.zk_text.specs.Words.{z_characters};
-ghost use Rattle.zk_text.specs.Sweeps.{AreFaultless, AreFaults, IsRestOf, IsSweptTo, IsTextRest, fault_behind, fault_of, first_of, kept_for, piece_fault};
+ghost use Rattle.zk_text.specs.Sweeps.{AreFaultless, AreFaults, IsRestOf, IsSweptTo, IsTextRest, fault_behind};
+ghost use Rattle.zk_text.specs.Sweeps.{fault_of, first_of, kept_for, piece_fault};
 
 use crate::checking::abbreviation_fault;
 use crate::pieces::{Pending, Piece, advance};
@@ -210,8 +212,9 @@ fn faultless_rest(memory: &Memory, address: u32, word: u16, further: Option<Rest
     further
 }
 
-/// The faults of all texts of a story, from an address past its end down to 0: a sweep knows that of the text at the address
-/// that it has come to. It looks at each word once, where `check_text` goes from each address to the text's end.
+/// The faults of all texts of a story, from an address past its end down to 0: a sweep knows that of the text at the
+/// address that it has come to. It looks at each word once, where `check_text` goes from each address to the text's
+/// end.
 #[derive(Drop)]
 pub struct Sweep {
     faults: Vec<Option<Fault>>,

@@ -18,7 +18,7 @@ use zk_mem::memory::Memory;
 /// abbreviation's address can't be read or its text has no last word, `NestedAbbreviation` where
 /// its text uses an abbreviation. Such a text, and that of each abbreviation that it uses, has at most half as many
 /// words as the story has bytes.
-#[tactic(auto, unfolding(crate::specs::Meaning::checked_end, crate::specs::Meaning::text_units), using(crate::proofs::ShortTexts::short_texts, crate::proofs::CheckedEnds::end_inside_by, crate::proofs::CheckedEnds::means_by))]
+#[tactic(auto, unfolding(crate::proofs::Opened::in_check_text), using(crate::proofs::CheckedEnds::of_check_text))]
 pub fn check_text(memory: &Memory, address: u32) -> Result<u32, Fault>
     ensures value { result ≡ checked_end memory.now address }
     ensures meaning { OnOk result (IsOk (text_units memory.now address)) }
@@ -31,7 +31,7 @@ pub fn check_text(memory: &Memory, address: u32) -> Result<u32, Fault>
 /// Whether the text of an abbreviation at a byte address has a meaning (Z-Machine Standards Document 1.1, section 3.3):
 /// `TextPastEnd` where it has no last word inside the story, `NestedAbbreviation` where it uses an abbreviation. Such a
 /// text has at most half as many words as the story has bytes.
-#[tactic(auto, using(crate::proofs::ShortTexts::short_text, crate::proofs::CheckedEnds::means_by, crate::proofs::CheckedEnds::means_not_by))]
+#[tactic(auto, using(crate::proofs::ShortTexts::short_text, crate::proofs::CheckedEnds::of_check_abbreviation))]
 pub fn check_abbreviation(memory: &Memory, address: u32) -> Result<(), Fault>
     ensures meaning { MatchResult result (λ _. IsOk (meaning_at no_abbreviation memory.now address))
         (λ e. meaning_at no_abbreviation memory.now address ≡ Err e) }

@@ -93,9 +93,9 @@ fn left_after(memory: &Memory, address: u32, most: u32) -> u32
     left
 }
 
-/// How many words are walked where the text at a byte address is printed: its own, and with each use of an abbreviation the
-/// abbreviation's (Z-Machine Standards Document 1.1, sections 3.2 and 3.3). A text without an end goes on to the story's end.
-/// No more than `most` are counted, or looked at.
+/// How many words are walked where the text at a byte address is printed: its own, and with each use of an abbreviation
+/// the abbreviation's (Z-Machine Standards Document 1.1, sections 3.2 and 3.3). A text without an end goes on to the
+/// story's end. No more than `most` are counted, or looked at.
 pub fn words_walked(memory: &Memory, address: u32, most: u32) -> u32
     ensures { result ≡ min (words_walked memory.now address) most }
 {

@@ -1,6 +1,7 @@
 -- A step, by how the instruction that was carried out goes on.
 use Rattle.std.specs.Prelude.{◌&&◌, if◌then◌else◌}
-use Rattle.std.proofs.Common.{◌≡◌, ◌∙◌, ◌≤◌, ◌<◌, inl, inr, ℕ, ◌+◌, ◌-◌, List, [], ◌∷◌, ◌++◌, take, Bool, true, false, Option, Some, None, Result, Ok, Err, refl, ap, sym, subst, arith, nat_le, nat_lt}
+use Rattle.std.proofs.Common.{◌≡◌, ◌∙◌, ◌≤◌, ◌<◌, inl, inr, ℕ, ◌+◌, ◌-◌, List, [], ◌∷◌, ◌++◌, take, Bool, true, false}
+use Rattle.std.proofs.Common.{Option, Some, None, Result, Ok, Err, refl, ap, sym, subst, arith, nat_le, nat_lt}
 use Rattle.std.proofs.lemmas.Bool.Decides.{nat_tests}
 use Rattle.zk_mem.specs.declared.fault.Fault.{Fault}
 use Rattle.zk_mem.specs.Map.{MemoryMap}
@@ -38,7 +39,9 @@ use Rattle.zk_vm.specs.Going.{stop_by, IsPut, Settles}
 use Rattle.zk_vm.specs.Halts.{Halt, IsKeeping, IsLeftAt, IsStep, KeepsState, StepsTo, halt_by}
 use Rattle.zk_vm.specs.Sessions.{Session}
 use Rattle.zk_vm.specs.Sound.{state_seen, IsOfStory, IsSound}
-use Rattle.zk_vm.specs.Step.{State, Step, Verdict, asked, back_to, fetched, settled, goes_by, goes_to, is_past_reads, is_read, kept_answer, led_to, most_reads, state_after, step, text_of, text_within, verdict_of, waits_by, with_kept}
+use Rattle.zk_vm.specs.Step.{State, Step, Verdict, asked, back_to, fetched, settled, goes_by, goes_to, is_past_reads}
+use Rattle.zk_vm.specs.Step.{is_read, kept_answer, led_to, most_reads, state_after, step, text_of, text_within}
+use Rattle.zk_vm.specs.Step.{verdict_of, waits_by, with_kept}
 use Rattle.zk_vm.specs.Step.Step.{Goes, Waits as Awaits, Quits, Faults, Exceeds}
 use Rattle.zk_vm.specs.Step.Verdict.{GoesOn, WaitsFor, StopsBy}
 use Rattle.zk_step.specs.declared.state.game_state.View.{View}
@@ -57,15 +60,18 @@ use Rattle.zk_vm.proofs.Sounds.{running, while_running, same_most, sound_now, st
 
 -- ---- what was carried out
 
-pub carried_fixed : (w : GameState) (i : Instr) (v : GameState) (n : Next) (t : Texts) → limited_move (carried_out w i) ≡ Ok (v, (n, t)) → fixed_parts v.memory ≡ fixed_parts w.memory
+pub carried_fixed : (w : GameState) (i : Instr) (v : GameState) (n : Next) (t : Texts)
+    → limited_move (carried_out w i) ≡ Ok (v, (n, t)) → fixed_parts v.memory ≡ fixed_parts w.memory
 carried_fixed w i v n t h = stories_stay w i (v, (n, t)) (move_is (carried_out w i) (v, (n, t)) h)
 
 -- the step leads there
-step_is : (s : State) (i : Instr) (v : GameState) (n : Next) (t : Texts) → instr_at s.game.memory s.pc ≡ Ok i → carried_out s.game i ≡ Ok (v, (n, t)) → step s ≡ led_to s i v t n
+step_is : (s : State) (i : Instr) (v : GameState) (n : Next) (t : Texts) → instr_at s.game.memory s.pc ≡ Ok i
+    → carried_out s.game i ≡ Ok (v, (n, t)) → step s ≡ led_to s i v t n
 unfolding step
 step_is s i v n t h k = ap (fetched s) h ∙ ap (settled s i) k
 
-pub fetched_is : (s : State) (i : Instr) → instr_at s.game.memory s.pc ≡ Ok i → step s ≡ settled s i (carried_out s.game i)
+pub fetched_is : (s : State) (i : Instr) → instr_at s.game.memory s.pc ≡ Ok i
+    → step s ≡ settled s i (carried_out s.game i)
 unfolding step
 fetched_is s i h = ap (fetched s) h
 
@@ -75,53 +81,71 @@ fault_is s f h = ap (fetched s) h
 
 -- ---- a machine whose instruction was carried out
 
-pub sound_moved : (m n : Inside) (i : Instr) (x : Next) (t : Texts) → IsSound m → m.stopped ≡ None → n.limits ≡ m.limits → n.waiting ≡ None → n.steps ≤ m.limits.steps → n.reads ≡ m.reads → n.undo ≡ m.undo → n.cache ≡ m.cache
-    → limited_move (carried_out m.game i) ≡ Ok (n.game, (x, t)) → bounds_of n.game.frames ≡ bounds_of m.game.frames → IsSound n
+pub sound_moved : (m n : Inside) (i : Instr) (x : Next) (t : Texts) → IsSound m → m.stopped ≡ None
+    → n.limits ≡ m.limits → n.waiting ≡ None → n.steps ≤ m.limits.steps → n.reads ≡ m.reads → n.undo ≡ m.undo
+    → n.cache ≡ m.cache
+    → limited_move (carried_out m.game i) ≡ Ok (n.game, (x, t)) → bounds_of n.game.frames ≡ bounds_of
+    m.game.frames → IsSound n
 sound_moved m n i x t is runs limits free steps reads undo same told bounds =
     let has = running m.stopped (IsOfStory m) runs is.story in
     let are = subst (λ (u : UndoStates). AreOf m.game.memory m.game.frames u) (sym undo) has.are_of in
     let cache = subst (λ (k : Cache). IsCacheOf (fixed_parts m.game.memory) k) (sym same) has.cache in
     sound_now m n is limits free steps (rw reads is.reads) (ap (λ (u : UndoStates). u.most) undo) bounds
-    (λ e. story_stays n m.game are (has.memory ∙ ap (λ (l : Limits). l.undo) (sym limits)) cache (carried_fixed m.game i n.game x t told) bounds)
+    (λ e. story_stays n m.game are (has.memory ∙ ap (λ (l : Limits). l.undo) (sym limits)) cache
+    (carried_fixed m.game i n.game x t told) bounds)
 
 -- ---- what is asked of a machine, from the state before and from the one after the instruction
 
-asked_moved : (s : State) (i : Instr) (w : GameState) (x : Request) → w.memory.version ≡ s.game.memory.version → asked (record s { game = w }) i w x ≡ asked s i w x
+asked_moved : (s : State) (i : Instr) (w : GameState) (x : Request) → w.memory.version ≡ s.game.memory.version
+    → asked (record s { game = w }) i w x ≡ asked s i w x
 asked_moved s i w (Answer event) e = refl
-asked_moved s i w SaveUndo e = ap (λ (v : ℕ). goes_to s (take w.memory.undo_states (state_of w.memory w.frames (if nat_lt v 4 then s.pc + 1 else i.next - 1) ∷ s.undo)) (result_answered w i (kept_answer w.memory.undo_states) true)) e
+asked_moved s i w SaveUndo e =
+    ap (λ (v : ℕ). goes_to s (take w.memory.undo_states
+    (state_of w.memory w.frames (if nat_lt v 4 then s.pc + 1 else i.next - 1) ∷ s.undo))
+    (result_answered w i (kept_answer w.memory.undo_states) true)) e
 asked_moved s i w RestoreUndo e = go (gone_back s.undo w.memory w.frames)
   where
-    go : (q : Option (MemoryMap × FrameList × ℕ × List WholeState)) → back_to (record s { game = w }) i w q ≡ back_to s i w q
+    go : (q : Option (MemoryMap × FrameList × ℕ × List WholeState))
+        → back_to (record s { game = w }) i w q ≡ back_to s i w q
     go None = refl
     go (Some (m, f, p, others)) = refl
 asked_moved s i w Quit e = refl
 
 -- from the state after it the step leads to the same
-step_moved : (m : Inside) (i : Instr) (w : GameState) (x : Request) (t : Texts) → instr_at m.game.memory m.pc ≡ Ok i → limited_move (carried_out m.game i) ≡ Ok (w, (Asks x, t)) → step (state_seen m) ≡ asked (state_seen (record m { game = w })) i w x
+step_moved : (m : Inside) (i : Instr) (w : GameState) (x : Request) (t : Texts)
+    → instr_at m.game.memory m.pc ≡ Ok i → limited_move (carried_out m.game i) ≡ Ok (w, (Asks x, t))
+    → step (state_seen m) ≡ asked (state_seen (record m { game = w })) i w x
 step_moved m i w x t h told =
     let fixed = carried_fixed m.game i w (Asks x) t told in
-    let undo : states_in w.memory.file m.undo ≡ states_in m.game.memory.file m.undo = same_states m.game.memory w.memory m.undo fixed in
+    let undo : states_in w.memory.file m.undo ≡ states_in m.game.memory.file m.undo = same_states m.game.memory
+    w.memory m.undo fixed in
     step_is (state_seen m) i w (Asks x) t h (move_is (carried_out m.game i) (w, (Asks x, t)) told)
     ∙ sym (asked_moved (state_seen m) i w x (same_version m.game.memory w.memory fixed))
     ∙ ap (λ (u : List WholeState). asked (record (state_seen m) { game = w; undo = u }) i w x) (sym undo)
 
 -- what is left of the one is left of the other
-left_goes : (old new : Session) (w : GameState) (u : List WholeState) (v : Verdict) (t : State) → IsPut (record old { state = record old.state { game = w; undo = u } }) new v t → IsLeftAt old new v t
+left_goes : (old new : Session) (w : GameState) (u : List WholeState) (v : Verdict) (t : State)
+    → IsPut (record old { state = record old.state { game = w; undo = u } }) new v t → IsLeftAt old new v t
 left_goes old new w u GoesOn t put = put
 left_goes old new w u (WaitsFor x) t put = put
 left_goes old new w u (StopsBy stop) t put = put.1
 
-left_moved : (old new : Session) (w : GameState) (u : List WholeState) (x : Step) → IsPut (record old { state = record old.state { game = w; undo = u } }) new (verdict_of old.state x) (state_after (record old.state { game = w; undo = u }) x)
+left_moved : (old new : Session) (w : GameState) (u : List WholeState) (x : Step)
+    → IsPut (record old { state = record old.state { game = w; undo = u } }) new (verdict_of old.state x)
+    (state_after (record old.state { game = w; undo = u }) x)
     → IsLeftAt old new (verdict_of old.state x) (state_after old.state x)
-left_moved old new w u (Goes t text) put = left_goes old new w u (goes_by old.state.pc (within_bounds t.game.frames)) t put
-left_moved old new w u (Awaits t waiting text) put = left_goes old new w u (verdict_of old.state (Awaits t waiting text)) t put
+left_moved old new w u (Goes t text) put =
+    left_goes old new w u (goes_by old.state.pc (within_bounds t.game.frames)) t put
+left_moved old new w u (Awaits t waiting text) put =
+    left_goes old new w u (verdict_of old.state (Awaits t waiting text)) t put
 left_moved old new w u Quits put = put.1
 left_moved old new w u (Faults f) put = put.1
 left_moved old new w u (Exceeds l) put = put.1
 
 -- ---- an instruction that keeps a state or goes back shows nothing
 
-silent_by : (s : State) (undo : List WholeState) (r : Result (GameState × ℕ) Fault) → text_of s (goes_to s undo r) ≡ no_text
+silent_by : (s : State) (undo : List WholeState) (r : Result (GameState × ℕ) Fault)
+    → text_of s (goes_to s undo r) ≡ no_text
 silent_by s undo r = step_all (λ x. text_of s x ≡ no_text) _ r (λ x e. go (within_bounds x.0.frames)) (λ f e. refl)
   where
     go : (q : Result FrameList Refusal) → text_within q no_text ≡ no_text
@@ -135,75 +159,104 @@ keeps_silent s i w = silent_by s (with_kept s i w) (result_answered w i (kept_an
 
 -- an instruction has asked something of the machine, which goes on as it says from the state after it
 -- an instruction that asks for something is still the one that stands there
-pub still_there : (m : Inside) (w : GameState) (i : Instr) (x : Request) (t : Texts) → instr_at m.game.memory m.pc ≡ Ok i → limited_move (carried_out m.game i) ≡ Ok (w, (Asks x, t)) → instr_at w.memory m.pc ≡ Ok i
+pub still_there : (m : Inside) (w : GameState) (i : Instr) (x : Request) (t : Texts)
+    → instr_at m.game.memory m.pc ≡ Ok i → limited_move (carried_out m.game i) ≡ Ok (w, (Asks x, t))
+    → instr_at w.memory m.pc ≡ Ok i
 still_there m w i x t h told =
     let has = asks m.game i w x t (move_is (carried_out m.game i) (w, (Asks x, t)) told) in
     ap (λ (n : MemoryMap). instr_at n m.pc) (operands_memory i.operands m.game w has.values has.operands) ∙ h
 
-pub stepped_asked : {S : Type 0} (shows : S → S → List ℕ → List ℕ → Type 0) (twice : (a b c : S) (s t u v : List ℕ) → shows a b s u → shows b c t v → shows a c (s ++ t) (u ++ v)) (a b c : S) (m : Inside) (new : Session) (i : Instr) (w : GameState) (x : Request) (t : Texts) (answer : Result (Unit {0}) Halt)
-    → instr_at m.game.memory m.pc ≡ Ok i → limited_move (carried_out m.game i) ≡ Ok (w, (Asks x, t)) → t ≡ no_text → shows a b t.screen t.script
+pub stepped_asked : {S : Type 0} (shows : S → S → List ℕ → List ℕ → Type 0)
+    (twice : (a b c : S) (s t u v : List ℕ) → shows a b s u → shows b c t v → shows a c (s ++ t) (u ++ v))
+    (a b c : S) (m : Inside) (new : Session) (i : Instr) (w : GameState) (x : Request) (t : Texts)
+    (answer : Result (Unit {0}) Halt)
+    → instr_at m.game.memory m.pc ≡ Ok i → limited_move (carried_out m.game i) ≡ Ok (w, (Asks x, t)) → t ≡ no_text
+    → shows a b t.screen t.script
     → Settles (seen (record m { game = w })) new answer (asked (state_seen (record m { game = w })) i w x)
-    → shows b c (text_of (state_seen m) (asked (state_seen (record m { game = w })) i w x)).screen (text_of (state_seen m) (asked (state_seen (record m { game = w })) i w x)).script
+    → shows b c (text_of (state_seen m) (asked (state_seen (record m { game = w })) i w x)).screen
+    (text_of (state_seen m) (asked (state_seen (record m { game = w })) i w x)).script
     → IsStep (seen m) new answer (λ y. shows a c y.screen y.script)
 stepped_asked {S} shows twice a b c m new i w x t answer h told quiet first settles rest =
     let none : shows a b [] [] = subst (λ (y : Texts). shows a b y.screen y.script) quiet first in
-    inl (subst (λ (y : Step). StepsTo y (seen m) new answer (λ z. shows a c z.screen z.script)) (sym (step_moved m i w x t h told)) (record {
+    inl (subst (λ (y : Step). StepsTo y (seen m) new answer (λ z. shows a c z.screen z.script))
+    (sym (step_moved m i w x t h told)) (record {
       tells = settles.tells;
-      left = left_moved (seen m) new w (states_in w.memory.file m.undo) (asked (state_seen (record m { game = w })) i w x) settles.put;
+      left = left_moved (seen m) new w (states_in w.memory.file m.undo)
+          (asked (state_seen (record m { game = w })) i w x) settles.put;
       shown = twice a b c [] _ [] _ none rest;
     }))
 
 -- ---- an instruction that keeps a state
 
 -- it is one, where the machine is asked to keep a state
-pub asks_keeps : (w v : GameState) (i : Instr) (x : Request) (t : Texts) → limited_move (carried_out w i) ≡ Ok (v, (Asks x, t)) → x ≡ SaveUndo → KeepsState i
-asks_keeps w v i x t told saves = subst (AsksBy i.opcode) saves (asks w i v x t (move_is (carried_out w i) (v, (Asks x, t)) told)).by
+pub asks_keeps : (w v : GameState) (i : Instr) (x : Request) (t : Texts)
+    → limited_move (carried_out w i) ≡ Ok (v, (Asks x, t)) → x ≡ SaveUndo → KeepsState i
+asks_keeps w v i x t told saves =
+    subst (AsksBy i.opcode) saves (asks w i v x t (move_is (carried_out w i) (v, (Asks x, t)) told)).by
 
 -- what it shows is nothing
-pub shown_silent : (old new : Session) (answer : Result (Unit {0}) Halt) (Shown : Texts → Type 0) → IsStep old new answer (λ t. t ≡ no_text) → Shown no_text → IsStep old new answer Shown
-shown_silent old new answer Shown (inl made) shown = inl (record { tells = made.tells; left = made.left; shown = subst Shown (sym made.shown) shown })
+pub shown_silent : (old new : Session) (answer : Result (Unit {0}) Halt) (Shown : Texts → Type 0)
+    → IsStep old new answer (λ t. t ≡ no_text) → Shown no_text → IsStep old new answer Shown
+shown_silent old new answer Shown (inl made) shown =
+    inl (record { tells = made.tells; left = made.left; shown = subst Shown (sym made.shown) shown })
 shown_silent old new answer Shown (inr (tells, same, (keeping, silent))) shown = inr (tells, same, (keeping, shown))
 
 -- its operands are taken, and it asks the machine to keep a state
-pub keeps_asks : (w v : GameState) (i : Instr) (vs : List ℕ) → KeepsState i → operands_read w i.operands ≡ Ok (v, vs) → limited_move (carried_out w i) ≡ Ok (v, (Asks SaveUndo, no_text))
+pub keeps_asks : (w v : GameState) (i : Instr) (vs : List ℕ) → KeepsState i
+    → operands_read w i.operands ≡ Ok (v, vs) → limited_move (carried_out w i) ≡ Ok (v, (Asks SaveUndo, no_text))
 unfolding carried_out effect_of saving routed finished
 keeps_asks w v i vs keeps taken = rw (taken, keeps) refl
 
 -- where they can't be taken, it is refused
-pub keeps_refused : (w : GameState) (i : Instr) (f : Fault) → operands_read w i.operands ≡ Err f → limited_move (carried_out w i) ≡ Err (refusal.Fault f)
+pub keeps_refused : (w : GameState) (i : Instr) (f : Fault) → operands_read w i.operands ≡ Err f
+    → limited_move (carried_out w i) ≡ Err (refusal.Fault f)
 unfolding carried_out
 keeps_refused w i f refused = rw refused refl
 
 -- it settles as the step does
-pub kept_settled : (m : Inside) (new : Session) (i : Instr) (w : GameState) (vs : List ℕ) (answer : Result (Unit {0}) Halt) (Shown : Texts → Type 0) → instr_at m.game.memory m.pc ≡ Ok i → KeepsState i → operands_read m.game i.operands ≡ Ok (w, vs)
-    → Settles (seen (record m { game = w })) new answer (asked (state_seen (record m { game = w })) i w SaveUndo) → Shown no_text → IsStep (seen m) new answer Shown
+pub kept_settled : (m : Inside) (new : Session) (i : Instr) (w : GameState) (vs : List ℕ)
+    (answer : Result (Unit {0}) Halt) (Shown : Texts → Type 0) → instr_at m.game.memory m.pc ≡ Ok i → KeepsState i
+    → operands_read m.game i.operands ≡ Ok (w, vs)
+    → Settles (seen (record m { game = w })) new answer (asked (state_seen (record m { game = w })) i w SaveUndo)
+    → Shown no_text → IsStep (seen m) new answer Shown
 kept_settled m new i w vs answer Shown h keeps taken settles shown =
     let told = keeps_asks m.game w i vs keeps taken in
-    let silent : text_of (state_seen m) (asked (state_seen (record m { game = w })) i w SaveUndo) ≡ no_text = keeps_silent (state_seen (record m { game = w })) i w in
-    inl (subst (λ (y : Step). StepsTo y (seen m) new answer Shown) (sym (step_moved m i w SaveUndo no_text h told)) (record {
+    let silent : text_of (state_seen m) (asked (state_seen (record m { game = w })) i w SaveUndo)
+    ≡ no_text = keeps_silent (state_seen (record m { game = w })) i w in
+    inl (subst (λ (y : Step). StepsTo y (seen m) new answer Shown)
+    (sym (step_moved m i w SaveUndo no_text h told)) (record {
       tells = settles.tells;
-      left = left_moved (seen m) new w (states_in w.memory.file m.undo) (asked (state_seen (record m { game = w })) i w SaveUndo) settles.put;
+      left = left_moved (seen m) new w (states_in w.memory.file m.undo)
+          (asked (state_seen (record m { game = w })) i w SaveUndo) settles.put;
       shown = subst Shown (sym silent) shown;
     }))
 
 -- its operands are given back: the machine stands as before
-pub sound_back : (m : Inside) (v : GameState) → IsSound m → m.stopped ≡ None → m.waiting ≡ None → fixed_parts v.memory ≡ fixed_parts m.game.memory → bounds_of v.frames ≡ bounds_of m.game.frames → IsSound (record m { game = v })
+pub sound_back : (m : Inside) (v : GameState) → IsSound m → m.stopped ≡ None → m.waiting ≡ None
+    → fixed_parts v.memory ≡ fixed_parts m.game.memory → bounds_of v.frames ≡ bounds_of m.game.frames
+    → IsSound (record m { game = v })
 sound_back m v is runs free same bounds =
     let has = running m.stopped (IsOfStory m) runs is.story in
-    sound_now m (record m { game = v }) is refl free is.steps is.reads refl bounds (λ e. story_stays (record m { game = v }) m.game has.are_of has.memory has.cache same bounds)
+    sound_now m (record m { game = v }) is refl free is.steps is.reads refl bounds
+    (λ e. story_stays (record m { game = v }) m.game has.are_of has.memory has.cache same bounds)
 
-pub stands_back : (m n : Inside) (w : GameState) → fixed_parts w.memory ≡ fixed_parts m.game.memory → seen n ≡ seen (record m { game = w }) → seen (record n { game = m.game }) ≡ seen m
+pub stands_back : (m n : Inside) (w : GameState) → fixed_parts w.memory ≡ fixed_parts m.game.memory
+    → seen n ≡ seen (record m { game = w }) → seen (record n { game = m.game }) ≡ seen m
 stands_back m n w fixed same =
     let game : n.game ≡ w = ap (λ (s : Session). s.state.game) same in
-    let here : fixed_parts n.game.memory ≡ fixed_parts m.game.memory = ap (λ (v : GameState). fixed_parts v.memory) game ∙ fixed in
+    let here : fixed_parts n.game.memory ≡ fixed_parts m.game.memory = ap (λ (v : GameState). fixed_parts
+    v.memory) game ∙ fixed in
     let of_n = same_states m.game.memory n.game.memory n.undo here in
     let of_m = same_states m.game.memory w.memory m.undo fixed in
-    ap (λ (u : List WholeState). let s : Session = record (seen n) { state = record (state_seen n) { game = m.game; undo = u } } in s) (sym of_n)
+    ap (λ (u : List WholeState). let s : Session = record (seen n)
+    { state = record (state_seen n) { game = m.game; undo = u } } in s) (sym of_n)
     ∙ ap (λ (s : Session). let t : Session = record s { state = record s.state { game = m.game } } in t) same
-    ∙ ap (λ (u : List WholeState). let s : Session = record (seen m) { state = record (state_seen m) { undo = u } } in s) of_m
+    ∙ ap (λ (u : List WholeState). let s : Session = record (seen m)
+    { state = record (state_seen m) { undo = u } } in s) of_m
 
 -- or there is no memory for the state
-pub is_keeping : (m : Inside) (i : Instr) (w : GameState) (vs : List ℕ) → instr_at m.game.memory m.pc ≡ Ok i → KeepsState i → operands_read m.game i.operands ≡ Ok (w, vs) → 0 < w.memory.undo_states → IsKeeping (state_seen m)
+pub is_keeping : (m : Inside) (i : Instr) (w : GameState) (vs : List ℕ) → instr_at m.game.memory m.pc ≡ Ok i
+    → KeepsState i → operands_read m.game i.operands ≡ Ok (w, vs) → 0 < w.memory.undo_states → IsKeeping (state_seen m)
 is_keeping m i w vs h keeps taken some =
     let fixed = carried_fixed m.game i w (Asks SaveUndo) no_text (keeps_asks m.game w i vs keeps taken) in
     record {
@@ -217,35 +270,49 @@ is_keeping m i w vs h keeps taken some =
     }
 
 -- it goes on at an address
-kept_at : (q : Result FrameList Refusal) (r s : GameState × (Next × Texts)) → kept {B = GameState × (Next × Texts)} q r ≡ Ok s → (u : FrameList) × (q ≡ Ok u)
+kept_at : (q : Result FrameList Refusal) (r s : GameState × (Next × Texts))
+    → kept {B = GameState × (Next × Texts)} q r ≡ Ok s → (u : FrameList) × (q ≡ Ok u)
 kept_at (Ok u) r s h = (u, refl)
 kept_at (Err e) r s h = absurd cc
 
-pub at_step : (s : State) (i : Instr) (w : GameState) (p : ℕ) (t : Texts) → instr_at s.game.memory s.pc ≡ Ok i → limited_move (carried_out s.game i) ≡ Ok (w, (At p, t))
-    → (step s ≡ Goes (record s { game = w; pc = p; steps = s.steps + 1 }) t) × ((u : FrameList) × (within_bounds w.frames ≡ Ok u))
+pub at_step : (s : State) (i : Instr) (w : GameState) (p : ℕ) (t : Texts) → instr_at s.game.memory s.pc ≡ Ok i
+    → limited_move (carried_out s.game i) ≡ Ok (w, (At p, t))
+    → (step s ≡ Goes (record s { game = w; pc = p; steps = s.steps + 1 }) t)
+    × ((u : FrameList) × (within_bounds w.frames ≡ Ok u))
 at_step s i w p t h told =
     let is = move_is (carried_out s.game i) (w, (At p, t)) told in
     let here : limited_move (Ok (w, (At p, t))) ≡ Ok (w, (At p, t)) = sym (ap limited_move is) ∙ told in
     (step_is s i w (At p) t h is, kept_at (within_bounds w.frames) (w, (At p, t)) (w, (At p, t)) here)
 
-pub stepped_on : {S : Type 0} (shows : S → S → List ℕ → List ℕ → Type 0) (a b : S) (m : Inside) (i : Instr) (w : GameState) (p : ℕ) (t : Texts) → instr_at m.game.memory m.pc ≡ Ok i
-    → limited_move (carried_out m.game i) ≡ Ok (w, (At p, t)) → shows a b t.screen t.script → IsStep (seen m) (seen (record m { game = w; pc = p; steps = m.steps + 1 })) (Ok tt) (λ x. shows a b x.screen x.script)
+pub stepped_on : {S : Type 0} (shows : S → S → List ℕ → List ℕ → Type 0) (a b : S) (m : Inside) (i : Instr)
+    (w : GameState) (p : ℕ) (t : Texts) → instr_at m.game.memory m.pc ≡ Ok i
+    → limited_move (carried_out m.game i) ≡ Ok (w, (At p, t)) → shows a b t.screen t.script
+    → IsStep (seen m) (seen (record m { game = w; pc = p; steps = m.steps + 1 })) (Ok tt)
+    (λ x. shows a b x.screen x.script)
 stepped_on {S} shows a b m i w p t h told shown =
     let at = at_step (state_seen m) i w p t h told in
     let same = same_states m.game.memory w.memory m.undo (carried_fixed m.game i w (At p) t told) in
     let to : State = record (state_seen m) { game = w; pc = p; steps = m.steps + 1 } in
     let verdict : goes_by m.pc (within_bounds w.frames) ≡ GoesOn = ap (goes_by m.pc) at.1.1 in
-    let text : text_within (within_bounds w.frames) t ≡ t = ap (λ (q : Result FrameList Refusal). text_within q t) at.1.1 in
-    let left : seen (record m { game = w; pc = p; steps = m.steps + 1 }) ≡ record (seen m) { state = to } = ap (λ (u : List WholeState). record (seen m) { state = record to { undo = u } }) same in
-    inl (subst (λ (y : Step). StepsTo y (seen m) (seen (record m { game = w; pc = p; steps = m.steps + 1 })) (Ok tt) (λ z. shows a b z.screen z.script)) (sym at.0) (record {
+    let text : text_within (within_bounds w.frames) t ≡ t = ap (λ (q : Result FrameList Refusal). text_within q t)
+    at.1.1 in
+    let left : seen (record m { game = w; pc = p; steps = m.steps + 1 }) ≡ record (seen m)
+    { state = to } = ap (λ (u : List WholeState). record (seen m) { state = record to { undo = u } }) same in
+    inl (subst (λ (y : Step). StepsTo y (seen m) (seen (record m { game = w; pc = p; steps = m.steps + 1 }))
+    (Ok tt) (λ z. shows a b z.screen z.script)) (sym at.0) (record {
       tells = sym (ap halt_by verdict);
-      left = subst (λ (v : Verdict). IsLeftAt (seen m) (seen (record m { game = w; pc = p; steps = m.steps + 1 })) v to) (sym verdict) left;
+      left =
+          subst (λ (v : Verdict). IsLeftAt (seen m) (seen (record m { game = w; pc = p; steps = m.steps + 1 })) v
+          to) (sym verdict) left;
       shown = subst (λ (y : Texts). shows a b y.screen y.script) (sym text) shown;
     }))
 
 -- it is the last
-ended_by : {S : Type 0} (shows : S → S → List ℕ → List ℕ → Type 0) (a b : S) (old new : Session) (x : Step) (stop : Stop) (t : Texts) (answer : Result (Unit {0}) Halt) → step old.state ≡ x → verdict_of old.state x ≡ StopsBy stop → text_of old.state x ≡ t
-    → answer ≡ Err (Err stop) → new.waiting ≡ None → shows a b t.screen t.script → IsStep old new answer (λ y. shows a b y.screen y.script)
+ended_by : {S : Type 0} (shows : S → S → List ℕ → List ℕ → Type 0) (a b : S) (old new : Session) (x : Step)
+    (stop : Stop) (t : Texts) (answer : Result (Unit {0}) Halt) → step old.state ≡ x
+    → verdict_of old.state x ≡ StopsBy stop → text_of old.state x ≡ t
+    → answer ≡ Err (Err stop) → new.waiting ≡ None → shows a b t.screen t.script
+    → IsStep old new answer (λ y. shows a b y.screen y.script)
 ended_by {S} shows a b old new x stop t answer is verdict text tells free shown =
     inl (subst (λ (y : Step). StepsTo y old new answer (λ z. shows a b z.screen z.script)) (sym is) (record {
       tells = tells ∙ sym (ap halt_by verdict);
@@ -253,28 +320,40 @@ ended_by {S} shows a b old new x stop t answer is verdict text tells free shown 
       shown = subst (λ (y : Texts). shows a b y.screen y.script) (sym text) shown;
     }))
 
-kept_err : (q : Result FrameList Refusal) (r : GameState × (Next × Texts)) (e : Refusal) → kept {B = GameState × (Next × Texts)} q r ≡ Err e → q ≡ Err e
+kept_err : (q : Result FrameList Refusal) (r : GameState × (Next × Texts)) (e : Refusal)
+    → kept {B = GameState × (Next × Texts)} q r ≡ Err e → q ≡ Err e
 kept_err (Ok u) r e h = absurd cc
 kept_err (Err d) r e h = cc
 
-pub err_step : (s : State) (i : Instr) (r : Result (GameState × (Next × Texts)) Fault) (e : Refusal) → limited_move r ≡ Err e → (verdict_of s (settled s i r) ≡ StopsBy (stop_by s.pc e)) × (text_of s (settled s i r) ≡ no_text)
+pub err_step : (s : State) (i : Instr) (r : Result (GameState × (Next × Texts)) Fault) (e : Refusal)
+    → limited_move r ≡ Err e → (verdict_of s (settled s i r) ≡ StopsBy (stop_by s.pc e))
+    × (text_of s (settled s i r) ≡ no_text)
 err_step s i (Ok (w, (At p, t))) e h =
     let over = kept_err (within_bounds w.frames) (w, (At p, t)) e h in
     (ap (goes_by s.pc) over ∙ stops_by s.pc e, ap (λ (q : Result FrameList Refusal). text_within q t) over)
 err_step s i (Ok (w, (Asks x, t))) e h = absurd cc
-err_step s i (Err f) e h = let is : refusal.Fault f ≡ e = cc in (ap (λ (x : Refusal). StopsBy (stop_by s.pc x)) is, refl)
+err_step s i (Err f) e h =
+    let is : refusal.Fault f ≡ e = cc in (ap (λ (x : Refusal). StopsBy (stop_by s.pc x)) is, refl)
 
-pub stepped_err : {S : Type 0} (shows : S → S → List ℕ → List ℕ → Type 0) (a b : S) (m : Inside) (new : Session) (i : Instr) (e : Refusal) (answer : Result (Unit {0}) Halt) → instr_at m.game.memory m.pc ≡ Ok i
+pub stepped_err : {S : Type 0} (shows : S → S → List ℕ → List ℕ → Type 0) (a b : S) (m : Inside) (new : Session)
+    (i : Instr) (e : Refusal) (answer : Result (Unit {0}) Halt) → instr_at m.game.memory m.pc ≡ Ok i
     → limited_move (carried_out m.game i) ≡ Err e → answer ≡ Err (Err (stop_by m.pc e)) → new.waiting ≡ None
-    → shows a b (text_in (limited_move (carried_out m.game i))).screen (text_in (limited_move (carried_out m.game i))).script → IsStep (seen m) new answer (λ y. shows a b y.screen y.script)
+    → shows a b (text_in (limited_move (carried_out m.game i))).screen
+    (text_in (limited_move (carried_out m.game i))).script → IsStep (seen m) new answer
+    (λ y. shows a b y.screen y.script)
 stepped_err {S} shows a b m new i e answer h told tells free shown =
     let parts = err_step (state_seen m) i (carried_out m.game i) e told in
-    ended_by shows a b (seen m) new (settled (state_seen m) i (carried_out m.game i)) (stop_by m.pc e) no_text answer (fetched_is (state_seen m) i h) parts.0 parts.1 tells free
+    ended_by shows a b (seen m) new (settled (state_seen m) i (carried_out m.game i)) (stop_by m.pc e) no_text
+    answer (fetched_is (state_seen m) i h) parts.0 parts.1 tells free
     (subst (λ (y : Texts). shows a b y.screen y.script) (ap text_in told) shown)
 
-pub stepped_fault : {S : Type 0} (shows : S → S → List ℕ → List ℕ → Type 0) (a : S) (m : Inside) (new : Session) (f : Fault) (answer : Result (Unit {0}) Halt) → instr_at m.game.memory m.pc ≡ Err f
-    → answer ≡ Err (Err (stop.Fault m.pc f)) → new.waiting ≡ None → shows a a [] [] → IsStep (seen m) new answer (λ y. shows a a y.screen y.script)
-stepped_fault {S} shows a m new f answer h tells free shown = ended_by shows a a (seen m) new (Faults f) (stop.Fault m.pc f) no_text answer (fault_is (state_seen m) f h) refl refl tells free shown
+pub stepped_fault : {S : Type 0} (shows : S → S → List ℕ → List ℕ → Type 0) (a : S) (m : Inside) (new : Session)
+    (f : Fault) (answer : Result (Unit {0}) Halt) → instr_at m.game.memory m.pc ≡ Err f
+    → answer ≡ Err (Err (stop.Fault m.pc f)) → new.waiting ≡ None → shows a a [] []
+    → IsStep (seen m) new answer (λ y. shows a a y.screen y.script)
+stepped_fault {S} shows a m new f answer h tells free shown =
+    ended_by shows a a (seen m) new (Faults f) (stop.Fault m.pc f) no_text answer (fault_is (state_seen m) f h)
+    refl refl tells free shown
 
 -- ---- it waits for a read
 
@@ -289,10 +368,13 @@ viewed_memory_by view.Plain w v t h =
     sym (ap (λ (q : GameState × Texts). q.0.memory) same)
 viewed_memory_by view.Upper w v t h = go (status_shown w.memory) h
   where
-    go : (r : Result (List ℕ) Fault) → (r >>= λ status. Ok (lines_shown w (status ++ rows_shown w.windows 1 w.windows.height))) ≡ Ok (v, t) → v.memory ≡ w.memory
+    go : (r : Result (List ℕ) Fault)
+        → (r >>= λ status. Ok (lines_shown w (status ++ rows_shown w.windows 1 w.windows.height))) ≡ Ok (v, t)
+        → v.memory ≡ w.memory
     go (Ok status) k =
         let same : lines_shown w (status ++ rows_shown w.windows 1 w.windows.height) ≡ (v, t) = cc in
-        sym (ap (λ (q : GameState × Texts). q.0.memory) same) ∙ lines_memory w (status ++ rows_shown w.windows 1 w.windows.height)
+        sym (ap (λ (q : GameState × Texts). q.0.memory) same)
+        ∙ lines_memory w (status ++ rows_shown w.windows 1 w.windows.height)
     go (Err f) k = absurd cc
 
 viewed_memory : (w v : GameState) (t : Texts) → viewed w ≡ Ok (v, t) → v.memory ≡ w.memory
@@ -308,37 +390,79 @@ not_past n x lt =
     go true = refl
     go false = refl
 
-pub sound_waiting : (m : Inside) (v : GameState) (w : Waiting) → IsSound m → m.stopped ≡ None → m.due.items ≡ [] → m.steps < m.limits.steps → v.memory ≡ m.game.memory → bounds_of v.frames ≡ bounds_of m.game.frames
-    → w.instruction.next ≤ 1048576 → m.pc < w.instruction.next → is_past_reads m.reads w.wait ≡ false → instr_at m.game.memory m.pc ≡ Ok w.instruction → IsSound (record m { game = v; waiting = Some w })
+pub sound_waiting : (m : Inside) (v : GameState) (w : Waiting) → IsSound m → m.stopped ≡ None → m.due.items ≡ []
+    → m.steps < m.limits.steps → v.memory ≡ m.game.memory → bounds_of v.frames ≡ bounds_of m.game.frames
+    → w.instruction.next ≤ 1048576 → m.pc < w.instruction.next → is_past_reads m.reads w.wait ≡ false
+    → instr_at m.game.memory m.pc ≡ Ok w.instruction → IsSound (record m { game = v; waiting = Some w })
 sound_waiting m v w is runs silent room memory bounds near inside past there =
     let has = running m.stopped (IsOfStory m) runs is.story in
     let all = sound_now m (record m { game = v; waiting = None }) is refl refl is.steps is.reads refl bounds
-    (λ e. story_stays (record m { game = v; waiting = None }) m.game has.are_of has.memory has.cache (ap fixed_parts memory) bounds) in
-    let stays = story_stays (record m { game = v; waiting = Some w }) m.game has.are_of has.memory has.cache (ap fixed_parts memory) bounds in
+    (λ e. story_stays (record m { game = v; waiting = None }) m.game has.are_of has.memory has.cache
+    (ap fixed_parts memory) bounds) in
+    let stays = story_stays (record m { game = v; waiting = Some w }) m.game has.are_of has.memory has.cache
+    (ap fixed_parts memory) bounds in
     record {
       steps = all.steps;
       bounds = all.bounds;
       reads = all.reads;
       most = all.most;
       story = while_running m.stopped (IsOfStory (record m { game = v; waiting = Some w })) (λ e. stays);
-      waits = record { reads = past; steps = room; next = near; some = omega (arith, inside); pc = omega (arith, near, inside); runs = runs; shown = silent; fetched = ap (λ (n : MemoryMap). instr_at n m.pc) memory ∙ there };
+      waits = record {
+        reads = past;
+        steps = room;
+        next = near;
+        some = omega (arith, inside);
+        pc = omega (arith, near, inside);
+        runs = runs;
+        shown = silent;
+        fetched = ap (λ (n : MemoryMap). instr_at n m.pc) memory ∙ there;
+      };
     }
 
-pub sound_viewed : (m : Inside) (v : GameState) (t : Texts) (w : Waiting) → IsSound m → m.stopped ≡ None → m.due.items ≡ [] → m.steps < m.limits.steps → viewed m.game ≡ Ok (v, t) → bounds_of v.frames ≡ bounds_of m.game.frames
-    → w.instruction.next ≤ 1048576 → m.pc < w.instruction.next → m.reads < 16777216 → instr_at m.game.memory m.pc ≡ Ok w.instruction → IsSound (record m { game = v; waiting = Some w })
-sound_viewed m v t w is runs silent room view bounds near inside few there = sound_waiting m v w is runs silent room (viewed_memory m.game v t view) bounds near inside (not_past m.reads w.wait few) there
+pub sound_viewed : (m : Inside) (v : GameState) (t : Texts) (w : Waiting) → IsSound m → m.stopped ≡ None
+    → m.due.items ≡ [] → m.steps < m.limits.steps → viewed m.game ≡ Ok (v, t)
+    → bounds_of v.frames ≡ bounds_of m.game.frames
+    → w.instruction.next ≤ 1048576 → m.pc < w.instruction.next → m.reads < 16777216
+    → instr_at m.game.memory m.pc ≡ Ok w.instruction → IsSound (record m { game = v; waiting = Some w })
+sound_viewed m v t w is runs silent room view bounds near inside few there =
+    sound_waiting m v w is runs silent room (viewed_memory m.game v t view) bounds near inside
+    (not_past m.reads w.wait few) there
 
 -- so it is left
-pub view_settles : (m : Inside) (v : GameState) (t : Texts) (x : Event) (i : Instr) → is_read x ≡ true → viewed m.game ≡ Ok (v, t) → m.reads < 16777216
-    → Settles (seen m) (seen (record m { game = v; waiting = Some (record { wait = x; instruction = i }) })) (Err (Ok x)) (asked (state_seen m) i m.game (Answer x))
+pub view_settles : (m : Inside) (v : GameState) (t : Texts) (x : Event) (i : Instr) → is_read x ≡ true
+    → viewed m.game ≡ Ok (v, t) → m.reads < 16777216
+    → Settles (seen m) (seen (record m { game = v; waiting = Some (record { wait = x; instruction = i }) }))
+    (Err (Ok x)) (asked (state_seen m) i m.game (Answer x))
 view_settles m v t x i read view few =
     let memory = viewed_memory m.game v t view in
-    let here : asked (state_seen m) i m.game (Answer x) ≡ Awaits (record (state_seen m) { game = v }) (record { wait = x; instruction = i }) t
-    = ap (λ (b : Bool). waits_by (state_seen m) i x (if b then viewed m.game else Ok (m.game, no_text))) read ∙ ap (waits_by (state_seen m) i x) view in
-    let verdict : verdict_of (state_seen m) (Awaits (record (state_seen m) { game = v }) (record { wait = x; instruction = i }) t) ≡ WaitsFor (record { wait = x; instruction = i })
-    = ap (λ (b : Bool). if b then StopsBy (stop.Limit m.pc Reads) else WaitsFor (record { wait = x; instruction = i })) (not_past m.reads x few) in
-    let put : IsPut (seen m) (seen (record m { game = v; waiting = Some (record { wait = x; instruction = i }) })) (WaitsFor (record { wait = x; instruction = i })) (record (state_seen m) { game = v })
-    = ap (λ (u : List WholeState). record (seen m) { state = record (state_seen m) { game = v; undo = u }; waiting = Some (record { wait = x; instruction = i }) }) (ap (λ (n : MemoryMap). states_in n.file m.undo) memory) in
-    let settles : Settles (seen m) (seen (record m { game = v; waiting = Some (record { wait = x; instruction = i }) })) (Err (Ok x)) (Awaits (record (state_seen m) { game = v }) (record { wait = x; instruction = i }) t)
-    = record { tells = sym (ap halt_by verdict); put = subst (λ (y : Verdict). IsPut (seen m) (seen (record m { game = v; waiting = Some (record { wait = x; instruction = i }) })) y (record (state_seen m) { game = v })) (sym verdict) put } in
-    subst (λ (y : Step). Settles (seen m) (seen (record m { game = v; waiting = Some (record { wait = x; instruction = i }) })) (Err (Ok x)) y) (sym here) settles
+    let here : asked (state_seen m) i m.game (Answer x) ≡ Awaits (record (state_seen m) { game = v })
+    (record { wait = x; instruction = i }) t
+    = ap (λ (b : Bool). waits_by (state_seen m) i x (if b then viewed m.game else Ok (m.game, no_text))) read
+    ∙ ap (waits_by (state_seen m) i x) view in
+    let verdict : verdict_of (state_seen m) (Awaits (record (state_seen m) { game = v })
+    (record { wait = x; instruction = i }) t) ≡ WaitsFor (record { wait = x; instruction = i })
+    =
+    ap (λ (b : Bool). if b then StopsBy (stop.Limit m.pc Reads) else WaitsFor
+    (record { wait = x; instruction = i })) (not_past m.reads x few) in
+    let put : IsPut (seen m) (seen (record m { game = v; waiting = Some (record { wait = x; instruction = i }) }))
+    (WaitsFor (record { wait = x; instruction = i })) (record (state_seen m) { game = v })
+    =
+    ap (λ (u : List WholeState). record (seen m) {
+      state = record (state_seen m) { game = v; undo = u };
+      waiting =
+          Some (record { wait = x; instruction = i });
+    }) (ap (λ (n : MemoryMap). states_in n.file m.undo) memory) in
+    let settles : Settles (seen m)
+    (seen (record m { game = v; waiting = Some (record { wait = x; instruction = i }) })) (Err (Ok x))
+    (Awaits (record (state_seen m) { game = v }) (record { wait = x; instruction = i }) t)
+    =
+    record {
+      tells = sym (ap halt_by verdict);
+      put =
+          subst (λ (y : Verdict). IsPut (seen m)
+          (seen (record m { game = v; waiting = Some (record { wait = x; instruction = i }) })) y
+          (record (state_seen m) { game = v })) (sym verdict) put;
+    } in
+    subst (λ (y : Step). Settles (seen m)
+    (seen (record m { game = v; waiting = Some (record { wait = x; instruction = i }) })) (Err (Ok x)) y)
+    (sym here) settles

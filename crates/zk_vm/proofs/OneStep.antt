@@ -7,7 +7,8 @@ use Rattle.zk_vm.specs.Step.{State, Step, step_by}
 use Rattle.zk_vm.specs.Step.Step.{Faults, Goes, Waits}
 
 -- what holds of the step by each value, and of each fault, holds of the step
-pub step_all : {A : Type 0} (P : Step → Type 0) (next : A → Step) (r : Result A Fault) → ((x : A) → r ≡ Ok x → P (next x)) → ((f : Fault) → r ≡ Err f → P (Faults f)) → P (step_by next r)
+pub step_all : {A : Type 0} (P : Step → Type 0) (next : A → Step) (r : Result A Fault)
+    → ((x : A) → r ≡ Ok x → P (next x)) → ((f : Fault) → r ≡ Err f → P (Faults f)) → P (step_by next r)
 step_all {A} P next (Ok x) on off = on x refl
 step_all {A} P next (Err f) on off = off f refl
 

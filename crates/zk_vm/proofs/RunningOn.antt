@@ -23,14 +23,19 @@ BothShow a c failed t =
     Shows (record { taken = a.screen; failed = false }) (record { taken = c.screen; failed = failed }) t.screen
     × Shows (record { taken = a.script; failed = false }) (record { taken = c.script; failed = failed }) t.script
 
-pub both_show : (a b c : Targets) (t : Texts) → IsFresh a → IsFinished c → Written a b t.screen t.script → Written b c [] [] → BothShow a c c.failed t
+pub both_show : (a b c : Targets) (t : Texts) → IsFresh a → IsFinished c → Written a b t.screen t.script
+    → Written b c [] [] → BothShow a c c.failed t
 both_show a b c t fresh done first rest =
-    let all : Written a c t.screen t.script = rw (append-nil t.screen, append-nil t.script) at (written_twice a b c t.screen [] t.script [] first rest) in (
-      rw fresh.failed at (sends_shows (screen_sender a) (screen_sender c) t.screen fresh.screen done.screen all.screen_sent),
-      rw fresh.failed at (sends_shows (script_sender a) (script_sender c) t.script fresh.script done.script all.script_sent),
+    let all : Written a c t.screen t.script = rw (append-nil t.screen, append-nil t.script) at
+    (written_twice a b c t.screen [] t.script [] first rest) in (
+      rw fresh.failed at (sends_shows (screen_sender a) (screen_sender c) t.screen fresh.screen done.screen
+          all.screen_sent),
+      rw fresh.failed at (sends_shows (script_sender a) (script_sender c) t.script fresh.script done.script
+          all.script_sent),
     )
 
-pub known_failed : (a b c : Targets) (t : Texts) → IsFresh a → Written a b t.screen t.script → Written b c [] [] → c.failed ≡ c.either
+pub known_failed : (a b c : Targets) (t : Texts) → IsFresh a → Written a b t.screen t.script → Written b c [] []
+    → c.failed ≡ c.either
 known_failed a b c t fresh first rest = rest.known (first.known (fresh.failed ∙ sym fresh.either))
 
 -- ---- a run that shows something shows it to both

@@ -1,5 +1,6 @@
 -- What the parts of a machine keep to, step by step.
-use Rattle.std.proofs.Common.{◌≡◌, ◌∙◌, ◌≤◌, ◌<◌, ℕ, List, [], ◌∷◌, length, Option, Some, None, Result, Ok, Err, refl, ap, arith}
+use Rattle.std.proofs.Common.{◌≡◌, ◌∙◌, ◌≤◌, ◌<◌, ℕ, List, [], ◌∷◌, length, Option, Some, None, Result, Ok, Err, refl}
+use Rattle.std.proofs.Common.{ap, arith}
 use Rattle.std.specs.Prelude.{map}
 use Rattle.zk_mem.specs.Fresh.{fresh}
 use Rattle.zk_mem.specs.Map.{MemoryMap}
@@ -45,17 +46,20 @@ unfolding fixed_parts again settled
 back_fixed w m = refl
 
 -- the states to go back to and the instructions that were decoded are those of a machine's story still
-pub story_stays : (n : Inside) (v : GameState) → AreOf v.memory v.frames n.undo → v.memory.undo_states ≡ n.limits.undo → IsCacheOf (fixed_parts v.memory) n.cache
+pub story_stays : (n : Inside) (v : GameState) → AreOf v.memory v.frames n.undo
+    → v.memory.undo_states ≡ n.limits.undo → IsCacheOf (fixed_parts v.memory) n.cache
     → fixed_parts n.game.memory ≡ fixed_parts v.memory → bounds_of n.game.frames ≡ bounds_of v.frames → IsOfStory n
 story_stays n v are most cache same bounds = record {
-  are_of = same_of v.memory n.game.memory v.frames n.game.frames n.undo (same_base v.memory n.game.memory same) bounds are;
+  are_of =
+      same_of v.memory n.game.memory v.frames n.game.frames n.undo (same_base v.memory n.game.memory same) bounds are;
   memory = same_most v.memory n.game.memory same ∙ most;
   cache = rw same cache;
 }
 
 -- ---- invariants
 
-pub sound_now : (m n : Inside) → IsSound m → n.limits ≡ m.limits → n.waiting ≡ None → n.steps ≤ m.limits.steps → n.reads ≤ 16777216 → n.undo.most ≡ m.undo.most
+pub sound_now : (m n : Inside) → IsSound m → n.limits ≡ m.limits → n.waiting ≡ None → n.steps ≤ m.limits.steps
+    → n.reads ≤ 16777216 → n.undo.most ≡ m.undo.most
     → bounds_of n.game.frames ≡ bounds_of m.game.frames → (n.stopped ≡ None → IsOfStory n) → IsSound n
 sound_now m n is limits free steps reads most bounds story = record {
   steps = rw limits steps;
@@ -71,14 +75,18 @@ few_by steps most (Ok p) lt = omega arith
 few_by steps most (Err e) lt = omega arith
 
 -- where a run goes on, an instruction was finished
-pub going_led : (x before : Option Stop) (pc : ℕ) (led : Result ℕ Refusal) (P : Type 0) → x ≡ stopped_by before (verdict_by pc led) → ((n : ℕ) → led ≡ Ok n → P) → x ≡ None → P
+pub going_led : (x before : Option Stop) (pc : ℕ) (led : Result ℕ Refusal) (P : Type 0)
+    → x ≡ stopped_by before (verdict_by pc led) → ((n : ℕ) → led ≡ Ok n → P) → x ≡ None → P
 going_led x before pc (Ok n) P e h none = h n refl
 going_led x before pc (Err r) P e h none = absurd cc
 
-pub sound_after : (m n : Inside) (pc : ℕ) (led : Result ℕ Refusal) → IsSound m → m.steps < m.limits.steps → n.limits ≡ m.limits → n.waiting ≡ None → n.steps ≡ steps_by m.steps led → n.reads ≡ m.reads
-    → n.undo.most ≡ m.undo.most → bounds_of n.game.frames ≡ bounds_of m.game.frames → n.stopped ≡ stopped_by m.stopped (verdict_by pc led) → ((x : ℕ) → led ≡ Ok x → IsOfStory n) → IsSound n
+pub sound_after : (m n : Inside) (pc : ℕ) (led : Result ℕ Refusal) → IsSound m → m.steps < m.limits.steps
+    → n.limits ≡ m.limits → n.waiting ≡ None → n.steps ≡ steps_by m.steps led → n.reads ≡ m.reads
+    → n.undo.most ≡ m.undo.most → bounds_of n.game.frames ≡ bounds_of m.game.frames
+    → n.stopped ≡ stopped_by m.stopped (verdict_by pc led) → ((x : ℕ) → led ≡ Ok x → IsOfStory n) → IsSound n
 sound_after m n pc led is room limits free steps reads most bounds stopped undo =
-    sound_now m n is limits free (rw steps (few_by m.steps m.limits.steps led room)) (rw reads is.reads) most bounds (going_led n.stopped m.stopped pc led (IsOfStory n) stopped undo)
+    sound_now m n is limits free (rw steps (few_by m.steps m.limits.steps led room)) (rw reads is.reads) most
+    bounds (going_led n.stopped m.stopped pc led (IsOfStory n) stopped undo)
 
 -- ---- what a machine is within
 
@@ -94,13 +102,20 @@ pub first_bounds : (s : FrameList) (f w : ℕ) → s ≡ first_frames f w → bo
 unfolding bounds_of
 first_bounds s f w e = ap bounds_of e
 
-pub within_limits : (m : Inside) → IsSound m → length m.undo.states ≤ m.undo.most → IsBounded m.game.frames → IsWithin m.limits (state_seen m)
+pub within_limits : (m : Inside) → IsSound m → length m.undo.states ≤ m.undo.most → IsBounded m.game.frames
+    → IsWithin m.limits (state_seen m)
 unfolding bounds_of
 within_limits m sound few is =
     let f : m.game.frames.most_frames ≡ m.limits.frames = ap (λ (p : ℕ × ℕ). p.0) sound.bounds in
     let w : m.game.frames.most_words ≡ m.limits.words = ap (λ (p : ℕ × ℕ). p.1) sound.bounds in
     let n = states_counted m.game.memory.file m.undo in
-    record { frames = omega (arith, is.frames, f); words = omega (arith, is.words, w); steps = sound.steps; reads = sound.reads; undo = omega (arith, n, few, sound.most) }
+    record {
+      frames = omega (arith, is.frames, f);
+      words = omega (arith, is.words, w);
+      steps = sound.steps;
+      reads = sound.reads;
+      undo = omega (arith, n, few, sound.most);
+    }
 
 pub first_undo : (story : List ℕ) (undo : ℕ) → (fresh story undo).undo_states ≡ undo
 unfolding fresh

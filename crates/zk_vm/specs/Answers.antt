@@ -1,5 +1,6 @@
 -- The answers that a machine waits for (Standard, section 15, `sread`, `aread`, `read_char`, `save` and `restore`).
-use Rattle.std.specs.Prelude.{ℕ, ◌+◌, Bool, true, false, ◌&&◌, List, [], ◌∷◌, ◌++◌, is_none, Option, Some, None, Result, Ok, Err, if◌then◌else◌}
+use Rattle.std.specs.Prelude.{ℕ, ◌+◌, Bool, true, false, ◌&&◌, List, [], ◌∷◌, ◌++◌, is_none, Option, Some, None, Result}
+use Rattle.std.specs.Prelude.{Ok, Err, if◌then◌else◌}
 use Rattle.zk_mem.specs.declared.fault.Fault.{Fault}
 use Rattle.zk_mem.specs.Map.{MemoryMap}
 use Rattle.zk_text.specs.Extra.{own_characters}
@@ -73,7 +74,9 @@ transcribed w _ codes = []
 
 -- the read is answered: no steps were made since, and the transcript is to get what was typed
 abbrev pub answer_settled : State → List ℕ → Result (GameState × ℕ) Fault → Step
-answer_settled s due = step_by (λ found. Goes (record s { game = found.0; pc = found.1; steps = 0; reads = s.reads + 1; due = due }) no_text)
+answer_settled s due =
+    step_by (λ found. Goes (record s { game = found.0; pc = found.1; steps = 0; reads = s.reads + 1; due = due })
+    no_text)
 
 -- ---- saved games
 
@@ -94,7 +97,8 @@ none_restored s i (Some l) = Exceeds l
 
 -- a saved game is back, and goes on where it was saved
 abbrev pub restored_to : State → Instr → Result (MemoryMap × FrameList × ℕ) RestoreError → Step
-restored_to s i (Ok (m, f, pc)) = goes_to s s.undo (resumed (windows_closed (record s.game { memory = m; frames = f })) pc)
+restored_to s i (Ok (m, f, pc)) =
+    goes_to s s.undo (resumed (windows_closed (record s.game { memory = m; frames = f })) pc)
 restored_to s i (Err e) = none_restored s i (limit_of e)
 
 abbrev pub restored_from : State → Instr → Option (List ℕ) → Step
@@ -104,7 +108,8 @@ restored_from s i (Some file) = restored_to s i (restored file s.game.memory s.g
 -- ---- all answers
 
 abbrev pub answered_by : State → Instr → Event → Answer → Step
-answered_by s i (Line text parse) a = answer_settled s (transcribed s.game (Line text parse) (codes_of a)) (line_answered s.game i text parse (codes_of a))
+answered_by s i (Line text parse) a = answer_settled s (transcribed s.game (Line text parse) (codes_of a))
+    (line_answered s.game i text parse (codes_of a))
 answered_by s i Char a = answer_settled s [] (character_answered s.game i (first_code (codes_of a)))
 answered_by s i Save a = goes_to s s.undo (result_answered s.game i (truth_word (is_kept a)) (is_kept a))
 answered_by s i Restore a = restored_from s i (file_of a)
@@ -115,7 +120,8 @@ answered s w a = answered_by s w.instruction w.wait a
 
 -- ---- a host that goes back
 
--- the newest state is back in place of an answer, and goes on where it was saved, as `restore_undo` has it; or there is none
+-- the newest state is back in place of an answer, and goes on where it was saved, as `restore_undo` has it; or there is
+-- none
 abbrev pub undone_to : State → Option (MemoryMap × FrameList × ℕ × List WholeState) → Option Step
 undone_to s None = None
 undone_to s (Some (m, f, pc, others)) = Some (goes_to s others (resumed (record s.game { memory = m; frames = f }) pc))

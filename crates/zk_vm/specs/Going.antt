@@ -1,5 +1,6 @@
 -- How a machine goes on where an instruction leads.
-use Rattle.std.specs.Prelude.{◌≡◌, ◌<◌, ◌+◌, ◌-◌, ◌++◌, false, ℕ, List, [], ◌∷◌, length, Option, Some, None, Result, Ok, Err}
+use Rattle.std.specs.Prelude.{◌≡◌, ◌<◌, ◌+◌, ◌-◌, ◌++◌, false, ℕ, List, [], ◌∷◌, length, Option, Some, None, Result, Ok}
+use Rattle.std.specs.Prelude.{Err}
 use Rattle.zk_state.specs.declared.refusal.Limit.{Limit}
 use Rattle.zk_state.specs.declared.refusal.Refusal.{Refusal}
 use Rattle.zk_state.specs.declared.refusal.Refusal.TheVariants as refusal
@@ -64,7 +65,8 @@ unrestored_by w i None = limited_pc (result_answered w i 0 false)
 unrestored_by w i (Some l) = Err (refusal.Limit l)
 
 -- where an instruction leads that restores, by what was loaded
-abbrev pub restored_by : GameState → Instr → Result (MemoryMap × FrameList × ℕ) RestoreError → Result (GameState × ℕ) Refusal
+abbrev pub restored_by : GameState → Instr → Result (MemoryMap × FrameList × ℕ) RestoreError
+    → Result (GameState × ℕ) Refusal
 restored_by w i (Ok (m, f, pc)) = limited_pc (resumed (windows_closed (record w { memory = m; frames = f })) pc)
 restored_by w i (Err e) = unrestored_by w i (limit_of e)
 

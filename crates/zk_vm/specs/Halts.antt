@@ -1,5 +1,6 @@
 -- What a machine tells of a run, and how it is left.
-use Rattle.std.specs.Prelude.{◌≡◌, ◌⊎◌, ◌≤◌, ◌<◌, ◌^◌, Bool, true, false, ℕ, List, [], Option, Some, None, Result, Ok, Err}
+use Rattle.std.specs.Prelude.{◌≡◌, ◌⊎◌, ◌≤◌, ◌<◌, ◌^◌, Bool, true, false, ℕ, List, [], Option, Some, None, Result, Ok}
+use Rattle.std.specs.Prelude.{Err}
 use Rattle.zk_code.specs.declared.instr.Instr.{Instr}
 use Rattle.zk_code.specs.declared.opcode.Opcode.TheVariants.{Saving}
 use Rattle.zk_code.specs.declared.opcode.Saving.TheVariants.{SaveUndo}
@@ -52,10 +53,11 @@ IsLeftAs new s (Some stop) = (new.stopped ≡ Some stop) × (new.waiting ≡ Non
 abbrev pub IsUndone : Session → Session → Bool → Option Step → Type 0
 IsUndone old new done None = (done ≡ false) × (new ≡ old)
 IsUndone old new done (Some x) =
-    (done ≡ true) × IsLeftAs new (resumed old (verdict_of old.state x) (state_after old.state x)) (resumed old (verdict_of old.state x) (state_after old.state x)).stopped
+    (done ≡ true) × IsLeftAs new (resumed old (verdict_of old.state x) (state_after old.state x))
+    (resumed old (verdict_of old.state x) (state_after old.state x)).stopped
 
--- a machine that waits can be answered: there may be one more read, where it waits for one, and one more step; what waits is
--- the instruction at its program counter
+-- a machine that waits can be answered: there may be one more read, where it waits for one, and one more step; what
+-- waits is the instruction at its program counter
 pub record IsAnswerable (s : State) (l : Limits) (stopped : Option Stop) (w : Waiting) : Type 0 where
   pub reads : is_past_reads s.reads w.wait ≡ false
   pub steps : s.steps < l.steps
@@ -87,13 +89,14 @@ pub record IsKeeping (s : State) : Type 0 where
   pub operands : operands_read s.game instruction.operands ≡ Ok (game, values)
 
 -- a step was made, and its text was shown
-pub record StepsTo (x : Step) (old new : Session) (answer : Result (Unit {0}) Halt) (Shown : Texts → Type 0) : Type 0 where
+pub record StepsTo (x : Step) (old new : Session) (answer : Result (Unit {0}) Halt)
+    (Shown : Texts → Type 0) : Type 0 where
   pub tells : answer ≡ halt_by (verdict_of old.state x)
   pub left : IsLeftAt old new (verdict_of old.state x) (state_after old.state x)
   pub shown : Shown (text_of old.state x)
 
--- a step was made as the Standard's machine makes it; or it came to keep a state, for which there was no memory, and nothing
--- was done
+-- a step was made as the Standard's machine makes it; or it came to keep a state, for which there was no memory, and
+-- nothing was done
 abbrev pub IsStep : Session → Session → Result (Unit {0}) Halt → (Texts → Type 0) → Type 0
 IsStep old new answer Shown =
     StepsTo (step old.state) old new answer Shown

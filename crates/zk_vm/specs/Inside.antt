@@ -1,6 +1,7 @@
--- Runs inside a clean set of addresses, as long as what stands in the instructions tells where they lead (Standard, sections 4
--- to 6 and 15).
-use Rattle.std.specs.Prelude.{◌≡◌, ◌+◌, ℕ, Bool, true, false, ◌&&◌, List, [], ◌∷◌, All, Option, Some, None, Result, Ok, Err, is_ok}
+-- Runs inside a clean set of addresses, as long as what stands in the instructions tells where they lead (Standard,
+-- sections 4 to 6 and 15).
+use Rattle.std.specs.Prelude.{◌≡◌, ◌+◌, ℕ, Bool, true, false, ◌&&◌, List, [], ◌∷◌, All, Option, Some, None, Result, Ok}
+use Rattle.std.specs.Prelude.{Err, is_ok}
 use Rattle.zk_mem.specs.declared.fault.Fault.{Fault}
 use Rattle.zk_mem.specs.Fresh.{fresh}
 use Rattle.zk_mem.specs.Story.{refusal}
@@ -32,12 +33,14 @@ abbrev pub FramesReturn : (ℕ → Type 0) → List Frame → Type 0
 FramesReturn P [] = Unit {0}
 FramesReturn P (f ∷ fs) = ReturnInto P f.pc fs
 
--- a state that can be gone back to goes on inside a set, after the store byte at its address (section 15, `restore_undo`)
+-- a state that can be gone back to goes on inside a set, after the store byte at its address (section 15,
+-- `restore_undo`)
 pub record IsKeptInside (P : ℕ → Type 0) (kept : WholeState) : Type 0 where
   pub frames : FramesReturn P kept.frames
   pub pc : P (kept.pc + 1)
 
--- a state of play is inside a set: its program counter, the addresses that its routines return to, and the states to go back to
+-- a state of play is inside a set: its program counter, the addresses that its routines return to, and the states to go
+-- back to
 pub record IsInside (P : ℕ → Type 0) (s : State) : Type 0 where
   pub pc : P s.pc
   pub frames : ReturnInto P s.game.frames.current.pc s.game.frames.callers
@@ -85,23 +88,31 @@ NoneLeaves (m ∷ ms) s = (leaves s m ≡ false) × NoneLeaves ms (moved s m).to
 abbrev pub IsRead : (ℕ → Type 0) → State → Type 0
 IsRead P s = P s.pc → (f : Fault) → step s ≡ Faults f → is_of_reading f ≡ false
 
--- where a set is clean for a story, a machine of it is inside after any moves, up to a call or jump by a variable and up to
--- a saved game; no step at an address of the set is ever a fault of reading, and no answer is; and memory always keeps the
--- story
+-- where a set is clean for a story, a machine of it is inside after any moves, up to a call or jump by a variable and
+-- up to a saved game; no step at an address of the set is ever a fault of reading, and no answer is; and memory always
+-- keeps the story
 pub record StaysClean (story : List ℕ) (P : ℕ → Type 0) : Type 0 where
-  pub inside : (seed : ℕ) (l : Limits) (view : View) (ms : List Move) → NoneLeaves ms (begun story seed l view) → (after ms (begun story seed l view)).stopped ≡ None → IsInside P (after ms (begun story seed l view)).state
-  pub read : (seed : ℕ) (l : Limits) (view : View) (ms : List Move) → (after ms (begun story seed l view)).stopped ≡ None → IsRead P (after ms (begun story seed l view)).state
+  pub inside : (seed : ℕ) (l : Limits) (view : View) (ms : List Move) → NoneLeaves ms (begun story seed l view)
+      → (after ms (begun story seed l view)).stopped ≡ None → IsInside P (after ms (begun story seed l view)).state
+  pub read : (seed : ℕ) (l : Limits) (view : View) (ms : List Move)
+      → (after ms (begun story seed l view)).stopped ≡ None → IsRead P (after ms (begun story seed l view)).state
   pub answers : (s : State) (w : Waiting) (a : Answer) (f : Fault) → answered s w a ≡ Faults f → is_of_reading f ≡ false
-  pub memory : (seed : ℕ) (l : Limits) (view : View) (ms : List Move) → (after ms (begun story seed l view)).stopped ≡ None → KeepsStory (after ms (begun story seed l view)).state.game.memory
+  pub memory : (seed : ℕ) (l : Limits) (view : View) (ms : List Move)
+      → (after ms (begun story seed l view)).stopped ≡ None
+      → KeepsStory (after ms (begun story seed l view)).state.game.memory
 
 -- so it is for each clean set
 abbrev pub CleanStays : Type 0
-CleanStays = (story : List ℕ) (undo_states : ℕ) (is_in : ℕ → Bool) → refusal story ≡ None → IsClean (fresh story undo_states) (λ a. is_in a ≡ true) → StaysClean story (λ a. is_in a ≡ true)
+CleanStays = (story : List ℕ) (undo_states : ℕ) (is_in : ℕ → Bool) → refusal story ≡ None
+    → IsClean (fresh story undo_states) (λ a. is_in a ≡ true) → StaysClean story (λ a. is_in a ≡ true)
 
--- no machine of a story stops at an address of a set by a fault of reading the instruction there, whatever moves it makes
+-- no machine of a story stops at an address of a set by a fault of reading the instruction there, whatever moves it
+-- makes
 unfoldable pub StopsRead : List ℕ → (ℕ → Type 0) → Type 0
-StopsRead story P = (seed : ℕ) (l : Limits) (view : View) (ms : List Move) (a : ℕ) (f : Fault) → (after ms (begun story seed l view)).stopped ≡ Some (FaultAt a f) → P a → is_of_reading f ≡ false
+StopsRead story P = (seed : ℕ) (l : Limits) (view : View) (ms : List Move) (a : ℕ) (f : Fault)
+    → (after ms (begun story seed l view)).stopped ≡ Some (FaultAt a f) → P a → is_of_reading f ≡ false
 
 -- so it is where runs stay clean
 abbrev pub CleanStopsRead : Type 0
-CleanStopsRead = (story : List ℕ) (is_in : ℕ → Bool) → StaysClean story (λ a. is_in a ≡ true) → StopsRead story (λ a. is_in a ≡ true)
+CleanStopsRead = (story : List ℕ) (is_in : ℕ → Bool) → StaysClean story (λ a. is_in a ≡ true)
+    → StopsRead story (λ a. is_in a ≡ true)

@@ -43,10 +43,11 @@ pub record KeepsLimits (s : Session) : Type 0 where
   pub within : IsWithin s.limits s.state
   pub waits : MayAnswer s.waiting s
 
--- so is that of each machine at its start, and it stays so after any moves, as long as it runs: whatever answers it gets, lines,
--- characters or bytes to restore. Each step is one move, so it is in each state that a run passes.
+-- so is that of each machine at its start, and it stays so after any moves, as long as it runs: whatever answers it
+-- gets, lines, characters or bytes to restore. Each step is one move, so it is in each state that a run passes.
 pub record RunsStayWithin : Type 0 where
-  pub begins : (story : List ℕ) (seed : ℕ) (l : Limits) (view : View) → AreInRange l → KeepsLimits (begun story seed l view)
+  pub begins : (story : List ℕ) (seed : ℕ) (l : Limits) (view : View) → AreInRange l
+      → KeepsLimits (begun story seed l view)
   pub stays : (ms : List Move) (s : Session) → KeepsLimits s → (after ms s).stopped ≡ None → KeepsLimits (after ms s)
 
 -- ---- limits change nothing else
@@ -62,8 +63,10 @@ with_more_steps k s = record s { limits = record s.limits { steps = s.limits.ste
 
 -- a machine that does not stop by the limit on steps does the same under any greater one
 abbrev pub StepLimitOnlyCuts : Type 0
-StepLimitOnlyCuts = (k : ℕ) (ms : List Move) (s : Session) → ((stop : Stop) → (after ms s).stopped ≡ Some stop → IsNoStepStop stop)
-    → (passed ms (with_more_steps k s) ≡ passed ms s) × (after ms (with_more_steps k s) ≡ with_more_steps k (after ms s))
+StepLimitOnlyCuts =
+    (k : ℕ) (ms : List Move) (s : Session) → ((stop : Stop) → (after ms s).stopped ≡ Some stop → IsNoStepStop stop)
+    → (passed ms (with_more_steps k s) ≡ passed ms s)
+    × (after ms (with_more_steps k s) ≡ with_more_steps k (after ms s))
 
 -- a stop that is not the limit on frames or words
 abbrev pub IsNoFrameStop : Stop → Type 0
@@ -81,14 +84,15 @@ session_in f w s = record s { state = state_in f w s.state; limits = record s.li
 
 -- a machine that stops by neither of these two does the same under any greater ones
 abbrev pub FrameLimitsOnlyCut : Type 0
-FrameLimitsOnlyCut = (f w : ℕ) (ms : List Move) (s : Session) → s.state.game.frames.most_frames ≤ f → s.state.game.frames.most_words ≤ w
+FrameLimitsOnlyCut = (f w : ℕ) (ms : List Move) (s : Session) → s.state.game.frames.most_frames ≤ f
+    → s.state.game.frames.most_words ≤ w
     → ((stop : Stop) → (after ms s).stopped ≡ Some stop → IsNoFrameStop stop)
     → (passed ms (session_in f w s) ≡ passed ms s) × (after ms (session_in f w s) ≡ session_in f w (after ms s))
 
 -- ---- limits cut
 
--- what a step or an answer leads to passes a limit: too many frames or words, too many in a file that it restores, or one
--- read too many
+-- what a step or an answer leads to passes a limit: too many frames or words, too many in a file that it restores, or
+-- one read too many
 abbrev pub Passes : Limit → State → Step → Type 0
 Passes l old (GoesTo s text) = within_bounds s.game.frames ≡ Err (refusal.Limit l)
 Passes l old (Waits s waiting text) = (l ≡ Reads) × (is_past_reads old.reads waiting.wait ≡ true)
@@ -100,18 +104,22 @@ abbrev pub last_told : Option Texts → ℕ → List Entry
 last_told None pc = At pc ∷ []
 last_told (Some t) pc = told t
 
--- how a machine stops by a limit, where some moves have led it: at the step that is one too many, at a step that passes a
--- limit, or at the instruction whose answer does. It shows nothing of that step, but what may be left of its text, and then
--- nothing passes any more.
+-- how a machine stops by a limit, where some moves have led it: at the step that is one too many, at a step that passes
+-- a limit, or at the instruction whose answer does. It shows nothing of that step, but what may be left of its text,
+-- and then nothing passes any more.
 pub record LimitsCut (ms : List Move) (s : Session) : Type 0 where
-  pub steps : (more : List Move) → (after ms s).waiting ≡ None → (after ms s).state.due ≡ [] → (after ms s).limits.steps ≤ (after ms s).state.steps
+  pub steps : (more : List Move) → (after ms s).waiting ≡ None → (after ms s).state.due ≡ []
+      → (after ms s).limits.steps ≤ (after ms s).state.steps
       → passed (ms ++ Goes ∷ more) s ≡ passed ms s ++ Stopped (LimitAt (after ms s).state.pc Steps) ∷ []
-  pub step : (more : List Move) (l : Limit) → (after ms s).waiting ≡ None → (after ms s).state.due ≡ [] → (after ms s).state.steps < (after ms s).limits.steps
+  pub step : (more : List Move) (l : Limit) → (after ms s).waiting ≡ None → (after ms s).state.due ≡ []
+      → (after ms s).state.steps < (after ms s).limits.steps
       → Passes l (after ms s).state (step (after ms s).state)
-      → passed (ms ++ Goes ∷ more) s ≡ passed ms s ++ (last_told (after ms s).left (after ms s).state.pc ++ Stopped (LimitAt (after ms s).state.pc l) ∷ [])
+      → passed (ms ++ Goes ∷ more) s ≡ passed ms s ++ (last_told (after ms s).left (after ms s).state.pc
+      ++ Stopped (LimitAt (after ms s).state.pc l) ∷ [])
   pub answer : (a : Answer) (more : List Move) (w : Waiting) (l : Limit) → (after ms s).waiting ≡ Some w
       → Passes l (after ms s).state (answered (after ms s).state w a)
-      → passed (ms ++ Gets a ∷ more) s ≡ passed ms s ++ heard_by (after ms s) w.wait a ∷ Stopped (LimitAt (after ms s).state.pc l) ∷ []
+      → passed (ms ++ Gets a ∷ more) s ≡ passed ms s ++ heard_by (after ms s) w.wait a
+      ∷ Stopped (LimitAt (after ms s).state.pc l) ∷ []
 
 -- so it is after any moves, where the machine still runs
 abbrev pub LimitsCutRuns : Type 0

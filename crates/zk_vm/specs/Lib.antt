@@ -12,6 +12,5 @@ pub mod Pausing
 pub mod Sound
 pub mod Plays
 pub mod Step
-pub mod Examples
-pub mod SavingExamples
 pub mod Inside
+pub mod guards

@@ -1,5 +1,6 @@
 -- The log of a machine: what passes between it and its world, in order.
-use Rattle.std.specs.Prelude.{◌≡◌, ◌⊎◌, ◌-◌, ◌+◌, ◌++◌, ◌==◌, ◌&&◌, ℕ, zero, suc, Bool, true, false, List, [], ◌∷◌, filter_map, length, map, Option, Some, None}
+use Rattle.std.specs.Prelude.{◌≡◌, ◌⊎◌, ◌-◌, ◌+◌, ◌++◌, ◌==◌, ◌&&◌, ℕ, zero, suc, Bool, true, false, List, [], ◌∷◌}
+use Rattle.std.specs.Prelude.{filter_map, length, map, Option, Some, None}
 use Rattle.zk_text.specs.Extra.{ExtraTable, own_characters}
 use Rattle.zk_state.specs.declared.refusal.Limit.TheVariants.{Steps}
 use Rattle.zk_save.specs.declared.restore.RestoreError.{RestoreError}
@@ -20,8 +21,8 @@ use Rattle.zk_vm.specs.Step.Verdict.{GoesOn, WaitsFor, StopsBy}
 -- ---- entries
 
 -- What passes: the instruction at a byte address is carried out; a character is shown on the screen, or goes to the
--- transcript; codes are read, by the extra characters in force; a saved game is offered, and kept or not; one is asked for,
--- and comes or not, and may be refused; the machine stops.
+-- transcript; codes are read, by the extra characters in force; a saved game is offered, and kept or not; one is asked
+-- for, and comes or not, and may be refused; the machine stops.
 pub data Entry : Type 0 where
   At : (address : ℕ) → Entry
   Shown : (c : ℕ) → Entry
@@ -96,17 +97,29 @@ pub record Passed : Type 0 where
   pub entries : List Entry
   pub to : Session
 
--- A step was made, at a byte address: the run goes on, waits or stops. It stops by itself, by a fault, or by a limit that the
--- state after it would pass, on frames, words or reads (`verdict_of`); where it stops so, it shows nothing (`text_of`).
+-- A step was made, at a byte address: the run goes on, waits or stops. It stops by itself, by a fault, or by a limit
+-- that the state after it would pass, on frames, words or reads (`verdict_of`); where it stops so, it shows nothing
+-- (`text_of`).
 abbrev pub stepped_to : Session → Verdict → State → Texts → Passed
-stepped_to s GoesOn t text = record { entries = address_told s.left s.state.pc ++ told text; to = record s { state = t; left = None } }
-stepped_to s (WaitsFor w) t text = record { entries = address_told s.left s.state.pc ++ told text; to = record s { state = t; waiting = Some w; left = None } }
-stepped_to s (StopsBy stop) t text = record { entries = address_told s.left s.state.pc ++ (told text ++ Stopped stop ∷ []); to = with_stop (record s { state = t }) stop }
+stepped_to s GoesOn t text =
+    record { entries = address_told s.left s.state.pc ++ told text; to = record s { state = t; left = None } }
+stepped_to s (WaitsFor w) t text =
+    record {
+      entries = address_told s.left s.state.pc ++ told text;
+      to = record s { state = t; waiting = Some w; left = None };
+    }
+stepped_to s (StopsBy stop) t text =
+    record {
+      entries = address_told s.left s.state.pc ++ (told text ++ Stopped stop ∷ []);
+      to = with_stop (record s { state = t }) stop;
+    }
 
 -- a step is made, where the limit on instructions leaves one
 abbrev pub stepped : ℕ → Session → Passed
-stepped zero s = record { entries = Stopped (LimitAt s.state.pc Steps) ∷ []; to = with_stop s (LimitAt s.state.pc Steps) }
-stepped (suc left) s = stepped_to s (verdict_of s.state (step s.state)) (state_after s.state (step s.state)) (text_left s.left s.state)
+stepped zero s =
+    record { entries = Stopped (LimitAt s.state.pc Steps) ∷ []; to = with_stop s (LimitAt s.state.pc Steps) }
+stepped (suc left) s =
+    stepped_to s (verdict_of s.state (step s.state)) (state_after s.state (step s.state)) (text_left s.left s.state)
 
 -- before it the transcript gets what it is still to get
 abbrev pub goes_by : List ℕ → Session → Passed
@@ -115,7 +128,11 @@ goes_by (c ∷ cs) s = record { entries = map Scripted (c ∷ cs); to = record s
 
 -- a part of a text is shown, and the rest is left; the state is still that before the step
 abbrev pub part_shown : ℕ → Session → Texts → Passed
-part_shown n s text = record { entries = address_told s.left s.state.pc ++ told (text_first n text); to = record s { left = Some (text_later n text) } }
+part_shown n s text =
+    record {
+      entries = address_told s.left s.state.pc ++ told (text_first n text);
+      to = record s { left = Some (text_later n text) };
+    }
 
 -- a step that stops has no parts: it is made, unless whatever the limits are nothing would be shown of it
 abbrev pub parted_to : Bool → ℕ → Session → Verdict → State → Texts → Passed
@@ -127,19 +144,21 @@ parted_to false n s (StopsBy stop) t text = stepped_to s (StopsBy stop) t text
 -- a part of its text is shown, where the limit on instructions leaves a step
 abbrev pub parted : ℕ → ℕ → Session → Passed
 parted n zero s = stepped zero s
-parted n (suc left) s = parted_to (is_silent (text_shown (step s.state))) n s (verdict_of s.state (step s.state)) (state_after s.state (step s.state)) (text_left s.left s.state)
+parted n (suc left) s = parted_to (is_silent (text_shown (step s.state))) n s (verdict_of s.state (step s.state))
+    (state_after s.state (step s.state)) (text_left s.left s.state)
 
 -- none is shown before the transcript has got all
 abbrev pub parts_by : ℕ → List ℕ → Session → Passed
 parts_by n [] s = parted n (s.limits.steps - s.state.steps) s
 parts_by n (c ∷ cs) s = record { entries = []; to = s }
 
--- a machine that runs goes on or shows a part, one that waits takes an answer, and else it stays as it is: each list of moves
--- is one
+-- a machine that runs goes on or shows a part, one that waits takes an answer, and else it stays as it is: each list of
+-- moves is one
 abbrev pub moved_by : Option Stop → Option Waiting → Session → Move → Passed
 moved_by None None s Goes = goes_by s.state.due s
 moved_by None None s (Part n) = parts_by n s.state.due s
-moved_by None (Some w) s (Gets a) = record { entries = heard_by s w.wait a ∷ stop_told (given_to (Some w) s a).stopped; to = given_to (Some w) s a }
+moved_by None (Some w) s (Gets a) =
+    record { entries = heard_by s w.wait a ∷ stop_told (given_to (Some w) s a).stopped; to = given_to (Some w) s a }
 moved_by stopped waiting s m = record { entries = []; to = s }
 
 abbrev pub moved : Session → Move → Passed
@@ -219,15 +238,21 @@ reads_in l = filter_map read_in (answers_in l)
 
 -- two logs of a machine that got the same from its world are each a first part of the other, or one is
 abbrev pub OneLog : Type 0
-OneLog = (s t u : Session) (l m : List Entry) → IsLog s l t → IsLog s m u → answers_in l ≡ answers_in m → IsPrefix l m ⊎ IsPrefix m l
+OneLog = (s t u : Session) (l m : List Entry) → IsLog s l t → IsLog s m u → answers_in l ≡ answers_in m
+    → IsPrefix l m ⊎ IsPrefix m l
 
--- a part of a text, and then the rest of its step, are what the step is alone: the same passes, and the same machine is left
+-- a part of a text, and then the rest of its step, are what the step is alone: the same passes, and the same machine is
+-- left
 abbrev pub PartsOnlyDivide : Type 0
-PartsOnlyDivide = (s : Session) (n : ℕ) → ((moved s (Part n)).entries ++ (moved (moved s (Part n)).to Goes).entries ≡ (moved s Goes).entries) × ((moved (moved s (Part n)).to Goes).to ≡ (moved s Goes).to)
+PartsOnlyDivide =
+    (s : Session) (n : ℕ) → ((moved s (Part n)).entries ++ (moved (moved s (Part n)).to Goes).entries
+    ≡ (moved s Goes).entries) × ((moved (moved s (Part n)).to Goes).to ≡ (moved s Goes).to)
 
 -- two parts, one after the other, are one
 abbrev pub PartsJoin : Type 0
-PartsJoin = (s : Session) (n k : ℕ) → ((moved s (Part n)).entries ++ (moved (moved s (Part n)).to (Part k)).entries ≡ (moved s (Part (n + k))).entries) × ((moved (moved s (Part n)).to (Part k)).to ≡ (moved s (Part (n + k))).to)
+PartsJoin =
+    (s : Session) (n k : ℕ) → ((moved s (Part n)).entries ++ (moved (moved s (Part n)).to (Part k)).entries
+    ≡ (moved s (Part (n + k))).entries) × ((moved (moved s (Part n)).to (Part k)).to ≡ (moved s (Part (n + k))).to)
 
 -- logs join
 abbrev pub LogsJoin : Type 0

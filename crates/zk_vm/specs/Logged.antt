@@ -1,5 +1,6 @@
 -- What calls promise of a machine's log: each device had its part of it, and the machine is left where it leads.
-use Rattle.std.specs.Prelude.{◌≡◌, ◌⊎◌, ◌<◌, ◌+◌, ◌++◌, ℕ, Bool, true, false, List, [], ◌∷◌, IfSome, Option, Some, None, Result, Ok, Err}
+use Rattle.std.specs.Prelude.{◌≡◌, ◌⊎◌, ◌<◌, ◌+◌, ◌++◌, ℕ, Bool, true, false, List, [], ◌∷◌, IfSome, Option, Some, None}
+use Rattle.std.specs.Prelude.{Result, Ok, Err}
 use Rattle.std.specs.List.{AllByRecursion}
 use Rattle.zk_text.specs.Extra.{ExtraTable, is_input_code}
 use Rattle.zk_term.specs.declared.lines.InputEnd.{InputEnd}
@@ -9,10 +10,12 @@ use Rattle.zk_step.specs.declared.state.ending.Event.{Event}
 use Rattle.zk_vm.specs.declared.stop.Stop.{Stop}
 use Rattle.zk_vm.specs.declared.stop.Stop.TheVariants.{Memory, Write}
 use Rattle.zk_vm.specs.Halts.{Halt, IsKeeping, event_waited}
-use Rattle.zk_vm.specs.Log.{Entry, IsLog, Move, addresses, answers_in, moved, parts_of, reads_in, scripted, shown, stop_told}
+use Rattle.zk_vm.specs.Log.{Entry, IsLog, Move, addresses, answers_in, moved, parts_of, reads_in, scripted, shown}
+use Rattle.zk_vm.specs.Log.{stop_told}
 use Rattle.zk_vm.specs.Log.Entry.{Offered, Asked}
 use Rattle.zk_vm.specs.Sessions.{Session}
-use Rattle.zk_vm.specs.Plays.{AsksForFile, AsksForLine, FoundNoLine, IsHeard, IsTold, SlotTells, SourceTells, Taken, TookLines, stop_behind}
+use Rattle.zk_vm.specs.Plays.{AsksForFile, AsksForLine, FoundNoLine, IsHeard, IsTold, SlotTells, SourceTells, Taken}
+use Rattle.zk_vm.specs.Plays.{TookLines, stop_behind}
 use Rattle.zk_vm.specs.Step.{State}
 
 -- ---- where there is no memory
@@ -34,14 +37,17 @@ pub record LacksState (s : Session) (state : State) : Type 0 where
 abbrev pub LacksRoom : Session → State → Type 0
 LacksRoom s state = LacksState s state ⊎ AsksForFile s
 
--- the addresses of a log were noted; where the next step is to keep a state, for which there is no memory, its own may be too
+-- the addresses of a log were noted; where the next step is to keep a state, for which there is no memory, its own may
+-- be too
 abbrev pub WasNoted : (List ℕ → Type 0) → List Entry → Session → Type 0
-WasNoted Noted l to = Noted (addresses l) ⊎ (((state : State) × LacksState to state) × Noted (addresses l ++ to.state.pc ∷ []))
+WasNoted Noted l to =
+    Noted (addresses l) ⊎ (((state : State) × LacksState to state) × Noted (addresses l ++ to.state.pc ∷ []))
 
 -- ---- a run on a screen: what `run` and `run_for` promise
 
 -- What holds of a screen came to hold at the last move of a log: it did not hold of the screen that got all before.
-pub record AtLast {S : Type 0} (shows : S → S → List ℕ → List ℕ → Type 0) (holds : S → Bool) (a b : S) (old to : Session) (l : List Entry) : Type 0 where
+pub record AtLast {S : Type 0} (shows : S → S → List ℕ → List ℕ → Type 0) (holds : S → Bool) (a b : S)
+    (old to : Session) (l : List Entry) : Type 0 where
   pub first : List Entry
   pub mid : Session
   pub before : IsLog old first mid
@@ -54,19 +60,25 @@ pub record AtLast {S : Type 0} (shows : S → S → List ℕ → List ℕ → Ty
   pub gets : shows between b (shown (moved mid move).entries) (scripted (moved mid move).entries)
   pub now : holds b ≡ true
 
--- how a run is left that has come to a session: it has paused, once its steps and the parts of texts that it has shown reach a
--- bound, or since its screen is full; it waits; or it has stopped there; or there is no memory for a state; or its screen has
--- failed
-abbrev pub RunEnds : {S : Type 0} → (S → S → List ℕ → List ℕ → Type 0) → (S → Bool) → (S → Bool) → S → S → ℕ → ℕ → Session → Session → Session → List Entry → Result (Unit {0}) Halt → Type 0
+-- how a run is left that has come to a session: it has paused, once its steps and the parts of texts that it has shown
+-- reach a bound, or since its screen is full; it waits; or it has stopped there; or there is no memory for a state; or
+-- its screen has failed
+abbrev pub RunEnds : {S : Type 0} → (S → S → List ℕ → List ℕ → Type 0) → (S → Bool) → (S → Bool) → S → S → ℕ → ℕ
+    → Session → Session → Session → List Entry → Result (Unit {0}) Halt → Type 0
 RunEnds {S} shows full failed a b bound parts old to new l (Ok u) =
-    (new ≡ to) × IsOn to × (failed b ≡ false) × (((to.state.steps + parts ≡ bound) × (to.state.steps < to.limits.steps)) ⊎ AtLast shows full a b old to l)
-RunEnds {S} shows full failed a b bound parts old to new l (Err (Ok event)) = (new ≡ to) × (event_waited to.waiting ≡ Some event)
+    (new ≡ to) × IsOn to × (failed b ≡ false)
+    × (((to.state.steps + parts ≡ bound) × (to.state.steps < to.limits.steps)) ⊎ AtLast shows full a b old to l)
+RunEnds {S} shows full failed a b bound parts old to new l (Err (Ok event)) =
+    (new ≡ to) × (event_waited to.waiting ≡ Some event)
 RunEnds {S} shows full failed a b bound parts old to new l (Err (Err stop)) =
-    (new.waiting ≡ None) × ((to.stopped ≡ Some stop) ⊎ (((stop ≡ Memory) × LacksState to new.state) ⊎ ((stop ≡ Write) × IsOn to × (failed b ≡ true) × (new.state ≡ to.state))))
+    (new.waiting ≡ None) × ((to.stopped ≡ Some stop) ⊎ (((stop ≡ Memory) × LacksState to new.state)
+    ⊎ ((stop ≡ Write) × IsOn to × (failed b ≡ true) × (new.state ≡ to.state))))
 
--- A machine was run, and so many parts of texts were shown: its screen got what a log shows, and has failed at its last move,
--- if it has.
-pub record Ran {S : Type 0} (shows : S → S → List ℕ → List ℕ → Type 0) (full failed : S → Bool) (Noted : List ℕ → Type 0) (a b : S) (bound parts : ℕ) (old new : Session) (answer : Result (Unit {0}) Halt) : Type 0 where
+-- A machine was run, and so many parts of texts were shown: its screen got what a log shows, and has failed at its last
+-- move, if it has.
+pub record Ran {S : Type 0} (shows : S → S → List ℕ → List ℕ → Type 0) (full failed : S → Bool)
+    (Noted : List ℕ → Type 0) (a b : S) (bound parts : ℕ) (old new : Session)
+    (answer : Result (Unit {0}) Halt) : Type 0 where
   pub log : List Entry
   pub to : Session
   pub is : IsLog old log to
@@ -87,11 +99,13 @@ halted (Err stop) = Err (Err stop)
 
 -- the screen and the transcript's target took what is shown: all of it, or each a first part where a write has failed
 pub record Wrote (old new : Taken) (failed : Bool) (l : List Entry) : Type 0 where
-  pub screen : Shows (record { taken = old.screen; failed = false }) (record { taken = new.screen; failed = failed }) (shown l)
-  pub script : Shows (record { taken = old.script; failed = false }) (record { taken = new.script; failed = failed }) (scripted l)
+  pub screen : Shows (record { taken = old.screen; failed = false })
+      (record { taken = new.screen; failed = failed }) (shown l)
+  pub script : Shows (record { taken = old.script; failed = false })
+      (record { taken = new.script; failed = failed }) (scripted l)
 
--- of a log up to its last answer they took all that is shown, and of the rest all, or each a first part where a write has
--- failed
+-- of a log up to its last answer they took all that is shown, and of the rest all, or each a first part where a write
+-- has failed
 pub record WroteFirst (old new : Taken) (failed : Bool) (l : List Entry) : Type 0 where
   pub first : List Entry
   pub last : List Entry
@@ -101,15 +115,17 @@ pub record WroteFirst (old new : Taken) (failed : Bool) (l : List Entry) : Type 
   pub all : Wrote old between false first
   pub part : Wrote between new failed last
 
--- how a machine is left that came to a session: it waits there; or it has stopped there; or lack of memory or a failed write
--- has stopped it
+-- how a machine is left that came to a session: it waits there; or it has stopped there; or lack of memory or a failed
+-- write has stopped it
 abbrev pub Ends : (Session → State → Type 0) → Bool → Session → Session → Result Event Stop → Type 0
 Ends Lacks unwritten to new (Ok event) = (unwritten ≡ false) × (new ≡ to) × (event_waited to.waiting ≡ Some event)
 Ends Lacks true to new (Err stop) = (new.stopped ≡ Some stop) × (new.waiting ≡ None) × (stop ≡ Write)
-Ends Lacks false to new (Err stop) = (new.stopped ≡ Some stop) × (new.waiting ≡ None) × ((to.stopped ≡ Some stop) ⊎ ((stop ≡ Memory) × Lacks to new.state))
+Ends Lacks false to new (Err stop) = (new.stopped ≡ Some stop) × (new.waiting ≡ None)
+    × ((to.stopped ≡ Some stop) ⊎ ((stop ≡ Memory) × Lacks to new.state))
 
 -- A machine was run up to an event or its stop: what was to get its text got that of a log.
-pub record RunsOn (Got : List Entry → Type 0) (Noted : List ℕ → Type 0) (old new : Session) (answer : Result Event Stop) (unwritten : Bool) : Type 0 where
+pub record RunsOn (Got : List Entry → Type 0) (Noted : List ℕ → Type 0) (old new : Session)
+    (answer : Result Event Stop) (unwritten : Bool) : Type 0 where
   pub log : List Entry
   pub to : Session
   pub is : IsLog old log to
@@ -123,9 +139,11 @@ pub record RunsOn (Got : List Entry → Type 0) (Noted : List ℕ → Type 0) (o
 -- a slot was offered a file or asked for one
 abbrev pub Served : {K : Type 0} → SlotTells K → Entry → K → K → Type 0
 Served {K} t (Offered file kept) a b =
-    IfSome (t.keeps a file) (λ k. kept ≡ k) × (kept ≡ true → IfSome (t.held b) (λ f. f ≡ Some file)) × (kept ≡ false → t.held b ≡ t.held a) × t.puts a b file kept
+    IfSome (t.keeps a file) (λ k. kept ≡ k) × (kept ≡ true → IfSome (t.held b) (λ f. f ≡ Some file))
+    × (kept ≡ false → t.held b ≡ t.held a) × t.puts a b file kept
 Served {K} t (Asked file refusal) a b =
-    IfSome (t.held a) (λ f. file ≡ f) × (t.held b ≡ t.held a) × ((mid : K) × (t.gets a mid file × IsTold t.hears mid b refusal))
+    IfSome (t.held a) (λ f. file ≡ f) × (t.held b ≡ t.held a)
+    × ((mid : K) × (t.gets a mid file × IsTold t.hears mid b refusal))
 Served {K} t _ a b = b ≡ a
 
 abbrev pub IsOfSlot : Entry → Type 0
@@ -145,13 +163,14 @@ pub record Serves {K : Type 0} (t : SlotTells K) (old new : Session) (a b : K) :
   pub of_slot : IsOfSlot entry
   pub served : Served t entry a b
 
--- a slot is as the log has left it; or it was asked once more, for a saved game for which there is no memory: it holds what it
--- held
+-- a slot is as the log has left it; or it was asked once more, for a saved game for which there is no memory: it holds
+-- what it held
 abbrev pub IsLeftFor : {K : Type 0} → SlotTells K → Session → Result Event Stop → K → K → Type 0
 IsLeftFor {K} t to answer a b = (b ≡ a) ⊎ ((answer ≡ Err Memory) × AsksForFile to × (t.held b ≡ t.held a))
 
 -- A machine was run up to a read or its stop, and a slot has answered it on its way.
-pub record Turns {K : Type 0} (t : SlotTells K) (Noted : List ℕ → Type 0) (slot0 slot1 : K) (old new : Session) (answer : Result Event Stop) (unwritten : Bool) (a b : Taken) : Type 0 where
+pub record Turns {K : Type 0} (t : SlotTells K) (Noted : List ℕ → Type 0) (slot0 slot1 : K) (old new : Session)
+    (answer : Result Event Stop) (unwritten : Bool) (a b : Taken) : Type 0 where
   pub log : List Entry
   pub to : Session
   pub is : IsLog old log to
@@ -165,25 +184,34 @@ pub record Turns {K : Type 0} (t : SlotTells K) (Noted : List ℕ → Type 0) (s
 
 -- ---- a play: what `play` promises
 
--- How a play ends, where its machine has come to: a write has failed, the machine has stopped, there is no memory, or a read
--- finds no line. Where none was sought, and nothing was read before, the source was left alone.
-pub data EndsBy {R : Type 0} (r : SourceTells R) (a b : R) (reads : List (ExtraTable × List ℕ)) (unwritten : Bool) (to : Session) (stop : Stop) : Type 0 where
+-- How a play ends, where its machine has come to: a write has failed, the machine has stopped, there is no memory, or a
+-- read finds no line. Where none was sought, and nothing was read before, the source was left alone.
+pub data EndsBy {R : Type 0} (r : SourceTells R) (a b : R) (reads : List (ExtraTable × List ℕ)) (unwritten : Bool)
+    (to : Session) (stop : Stop) : Type 0 where
   Unwritten : unwritten ≡ true → stop ≡ Write → (reads ≡ [] → b ≡ a) → EndsBy r a b reads unwritten to stop
   Itself : unwritten ≡ false → to.stopped ≡ Some stop → (reads ≡ [] → b ≡ a) → EndsBy r a b reads unwritten to stop
-  NoMemory : unwritten ≡ false → stop ≡ Memory → (state : State) → LacksRoom to state → (reads ≡ [] → b ≡ a) → EndsBy r a b reads unwritten to stop
-  NoLine : unwritten ≡ false → (over : InputEnd) → stop ≡ stop_behind over → AsksForLine to → FoundNoLine r a b reads over → EndsBy r a b reads unwritten to stop
+  NoMemory : unwritten ≡ false → stop ≡ Memory → (state : State) → LacksRoom to state → (reads ≡ [] → b ≡ a)
+      → EndsBy r a b reads unwritten to stop
+  NoLine : unwritten ≡ false → (over : InputEnd) → stop ≡ stop_behind over → AsksForLine to
+      → FoundNoLine r a b reads over → EndsBy r a b reads unwritten to stop
 
 -- none is left where a read finds no line
-abbrev pub IsOver : {R : Type 0} {r : SourceTells R} {a b : R} {reads : List (ExtraTable × List ℕ)} {unwritten : Bool} {to : Session} {stop : Stop} → EndsBy r a b reads unwritten to stop → List (List ℕ) → InputEnd → Type 0
+abbrev pub IsOver : {R : Type 0} {r : SourceTells R} {a b : R} {reads : List (ExtraTable × List ℕ)}
+    {unwritten : Bool} {to : Session} {stop : Stop} → EndsBy r a b reads unwritten to stop → List (List ℕ)
+    → InputEnd → Type 0
 IsOver (NoLine written over is asks found) left how = (left ≡ []) × (how ≡ over)
 IsOver _ left how = Unit {0}
 
 -- the reads took the lines of an input, of whose bytes these are left
 abbrev pub TookOf : List ℕ → List ℕ → Bool → List (ExtraTable × List ℕ) → (List (List ℕ) → InputEnd → Type 0) → Type 0
-TookOf bytes later failed reads Over = (h : Heard) × ((left : List (List ℕ)) × (IsHeard bytes later failed h left × TookLines reads h.lines left × Over left h.over))
+TookOf bytes later failed reads Over =
+    (h : Heard) × ((left : List (List ℕ)) × (IsHeard bytes later failed h left × TookLines reads h.lines left
+    × Over left h.over))
 
 -- A machine was played: there is a log of it, of which each device has its part.
-pub record Plays {K R : Type 0} (t : SlotTells K) (r : SourceTells R) (tells : R → Option (List ℕ)) (Noted : List ℕ → Type 0) (slot0 slot1 : K) (reader0 reader1 : R) (old : Session) (stop : Stop) (unwritten : Bool) (a b : Taken) : Type 0 where
+pub record Plays {K R : Type 0} (t : SlotTells K) (r : SourceTells R) (tells : R → Option (List ℕ))
+    (Noted : List ℕ → Type 0) (slot0 slot1 : K) (reader0 reader1 : R) (old : Session) (stop : Stop)
+    (unwritten : Bool) (a b : Taken) : Type 0 where
   pub log : List Entry
   pub to : Session
   pub is : IsLog old log to
@@ -194,4 +222,5 @@ pub record Plays {K R : Type 0} (t : SlotTells K) (r : SourceTells R) (tells : R
   pub did : SlotDid t (answers_in log) slot0 slot
   pub left : IsLeftFor t to (Err stop) slot slot1
   pub typed : AllByRecursion (λ x. AllByRecursion (λ c. is_input_code c ≡ true) x.1) (reads_in log)
-  pub heard : (bytes : List ℕ) → tells reader0 ≡ Some bytes → (later : List ℕ) × ((tells reader1 ≡ Some later) × TookOf bytes later (r.failed reader1) (reads_in log) (IsOver ends))
+  pub heard : (bytes : List ℕ) → tells reader0 ≡ Some bytes → (later : List ℕ)
+      × ((tells reader1 ≡ Some later) × TookOf bytes later (r.failed reader1) (reads_in log) (IsOver ends))

@@ -1,5 +1,6 @@
 -- A machine in the middle of an instruction's text, as contracts see it.
-use Rattle.std.specs.Prelude.{◌≡◌, ◌<◌, ◌+◌, ℕ, Bool, true, false, List, [], ◌∷◌, IfSome, Option, Some, None, Result, Ok, Err}
+use Rattle.std.specs.Prelude.{◌≡◌, ◌<◌, ◌+◌, ℕ, Bool, true, false, List, [], ◌∷◌, IfSome, Option, Some, None, Result}
+use Rattle.std.specs.Prelude.{Ok, Err}
 use Rattle.zk_code.specs.declared.instr.Instr.{Instr}
 use Rattle.zk_code.specs.declared.opcode.Opcode.{Opcode}
 use Rattle.zk_code.specs.declared.opcode.Opcode.TheVariants as opcode
@@ -46,13 +47,15 @@ pub record IsPausing (p : Inside) : Type 0 where
   pub half : IfSome p.half (StandsHalf p.machine p.codes p.draft)
 
 -- a part of an instruction's text was shown: the machine stands as before
-pub record IsCut {S : Type 0} (shows : S → S → List ℕ → List ℕ → Type 0) (a b : S) (old new : Session) (i : Instr) (before : Option Half) (codes : List ℕ) (draft : Windows) (h : Half) : Type 0 where
+pub record IsCut {S : Type 0} (shows : S → S → List ℕ → List ℕ → Type 0) (a b : S) (old new : Session) (i : Instr)
+    (before : Option Half) (codes : List ℕ) (draft : Windows) (h : Half) : Type 0 where
   pub same : new ≡ old
   pub half : IsHalf old.state.game i codes draft h
   pub shown : ShowsSome shows a b (text_due old.state.game i before) (rest_text old.state.game h.rest)
 
 -- so it was of the instruction at the program counter
-pub record IsCutAt {S : Type 0} (shows : S → S → List ℕ → List ℕ → Type 0) (a b : S) (old new : Session) (before : Option Half) (codes : List ℕ) (draft : Windows) (h : Half) : Type 0 where
+pub record IsCutAt {S : Type 0} (shows : S → S → List ℕ → List ℕ → Type 0) (a b : S) (old new : Session)
+    (before : Option Half) (codes : List ℕ) (draft : Windows) (h : Half) : Type 0 where
   pub instruction : Instr
   pub fetched : instr_at old.state.game.memory old.state.pc ≡ Ok instruction
   pub cut : IsCut shows a b old new instruction before codes draft h
@@ -81,7 +84,8 @@ prints_text (opcode.Table t) = true
 prints_text _ = false
 
 -- the step was made, and the text that was still to come was shown; or nothing was done, for lack of memory
-abbrev pub IsMade : {S : Type 0} → (S → S → List ℕ → List ℕ → Type 0) → S → S → Session → Session → Option Half → Result Stepped Halt → Type 0
+abbrev pub IsMade : {S : Type 0} → (S → S → List ℕ → List ℕ → Type 0) → S → S → Session → Session → Option Half
+    → Result Stepped Halt → Type 0
 IsMade {S} shows a b old new half (Ok stepped.Part) = Unit {0}
 IsMade {S} shows a b old new half (Ok stepped.Done) = IsStep old new (Ok tt) (GotDue shows a b old.state.game half)
 IsMade {S} shows a b old new half (Ok stepped.NoMemory) = (new ≡ old) × IsKeeping old.state × (b ≡ a)
@@ -90,7 +94,8 @@ IsMade {S} shows a b old new half (Err h) = IsStep old new (Err h) (GotDue shows
 -- ---- how a machine goes on
 
 -- a machine went on, and a screen got what passed
-pub record WentOn {S : Type 0} (shows : S → S → List ℕ → List ℕ → Type 0) (parts : ℕ) (a b : S) (s t : Session) : Type 0 where
+pub record WentOn {S : Type 0} (shows : S → S → List ℕ → List ℕ → Type 0) (parts : ℕ) (a b : S)
+    (s t : Session) : Type 0 where
   pub log : List Entry
   pub is : IsLog s log t
   pub counted : parts_of is.moves ≡ parts
@@ -99,7 +104,8 @@ pub record WentOn {S : Type 0} (shows : S → S → List ℕ → List ℕ → Ty
   pub on : IsOn t
 
 -- it did so by a move
-pub record GoneBy {S : Type 0} (shows : S → S → List ℕ → List ℕ → Type 0) (parts : ℕ) (a b : S) (s t : Session) : Type 0 where
+pub record GoneBy {S : Type 0} (shows : S → S → List ℕ → List ℕ → Type 0) (parts : ℕ) (a b : S)
+    (s t : Session) : Type 0 where
   pub move : Move
   pub counted : parts_of (move ∷ []) ≡ parts
   pub there : t ≡ (moved s move).to
@@ -110,7 +116,8 @@ pub record GoneBy {S : Type 0} (shows : S → S → List ℕ → List ℕ → Ty
 -- ---- what a run comes to
 
 -- a machine has gone on to an instruction that keeps a state, for which there is no memory, and stands before it
-pub record StandsShort {S : Type 0} (shows : S → S → List ℕ → List ℕ → Type 0) (failed : S → Bool) (a b : S) (bound parts : ℕ) (old new : Session) : Type 0 where
+pub record StandsShort {S : Type 0} (shows : S → S → List ℕ → List ℕ → Type 0) (failed : S → Bool) (a b : S)
+    (bound parts : ℕ) (old new : Session) : Type 0 where
   pub went : WentOn shows parts a b old new
   pub keeping : IsKeeping new.state
   pub works : failed b ≡ false
@@ -118,10 +125,14 @@ pub record StandsShort {S : Type 0} (shows : S → S → List ℕ → List ℕ �
   pub room : new.state.steps < new.limits.steps
 
 -- a machine has paused, with memory or for lack of it, or it waits or stops
-abbrev pub HasCome : {S : Type 0} → (S → S → List ℕ → List ℕ → Type 0) → (full failed : S → Bool) → (a b : S) → (bound : ℕ) → (old new : Session) → Result Bool Halt → Type 0
-HasCome {S} shows full failed a b bound old new (Ok true) = (parts : ℕ) × Ran shows full failed (λ l. Unit {0}) a b bound parts old new (Ok tt)
-HasCome {S} shows full failed a b bound old new (Ok false) = (parts : ℕ) × StandsShort shows failed a b bound parts old new
-HasCome {S} shows full failed a b bound old new (Err h) = (parts : ℕ) × Ran shows full failed (λ l. Unit {0}) a b bound parts old new (Err h)
+abbrev pub HasCome : {S : Type 0} → (S → S → List ℕ → List ℕ → Type 0) → (full failed : S → Bool) → (a b : S)
+    → (bound : ℕ) → (old new : Session) → Result Bool Halt → Type 0
+HasCome {S} shows full failed a b bound old new (Ok true) =
+    (parts : ℕ) × Ran shows full failed (λ l. Unit {0}) a b bound parts old new (Ok tt)
+HasCome {S} shows full failed a b bound old new (Ok false) =
+    (parts : ℕ) × StandsShort shows failed a b bound parts old new
+HasCome {S} shows full failed a b bound old new (Err h) =
+    (parts : ℕ) × Ran shows full failed (λ l. Unit {0}) a b bound parts old new (Err h)
 
 -- what a run tells, as its steps tell it
 abbrev pub come_to : Result Reached Stop → Result Bool Halt

@@ -41,9 +41,9 @@ AsksForLine s = (event : Event) × ((event_waited s.waiting ≡ Some event) × (
 abbrev pub AsksForFile : Session → Type 0
 AsksForFile s = (event : Event) × ((event_waited s.waiting ≡ Some event) × (is_read event ≡ false))
 
--- what a slot tells of itself: the file that it holds, and whether it will keep one, where it tells these; and what led from
--- one state of it to another: that it was asked to keep a file, that it was asked for the one that it has, and that it was
--- told why that is refused
+-- what a slot tells of itself: the file that it holds, and whether it will keep one, where it tells these; and what led
+-- from one state of it to another: that it was asked to keep a file, that it was asked for the one that it has, and
+-- that it was told why that is refused
 pub record SlotTells (K : Type 0) : Type 1 where
   pub held : K → Option (Option (List ℕ))
   pub keeps : K → List ℕ → Option Bool
@@ -51,8 +51,11 @@ pub record SlotTells (K : Type 0) : Type 1 where
   pub gets : K → K → Option (List ℕ) → Type 0
   pub hears : K → K → RestoreError → Type 0
 
-abbrev pub slot_tells : {K : Type 0} → (K → Option (Option (List ℕ))) → (K → List ℕ → Option Bool) → (K → K → List ℕ → Bool → Type 0) → (K → K → Option (List ℕ) → Type 0) → (K → K → RestoreError → Type 0) → SlotTells K
-slot_tells {K} held keeps puts gets hears = record { held = held; keeps = keeps; puts = puts; gets = gets; hears = hears }
+abbrev pub slot_tells : {K : Type 0} → (K → Option (Option (List ℕ))) → (K → List ℕ → Option Bool)
+    → (K → K → List ℕ → Bool → Type 0) → (K → K → Option (List ℕ) → Type 0) → (K → K → RestoreError → Type 0)
+    → SlotTells K
+slot_tells {K} held keeps puts gets hears =
+    record { held = held; keeps = keeps; puts = puts; gets = gets; hears = hears }
 
 -- why a machine refuses a saved game; one with too many frames or words is a limit
 abbrev pub refused_in : {A : Type 0} → Result A RestoreError → Option RestoreError
@@ -91,18 +94,21 @@ pub record SourceTells (R : Type 0) : Type 1 where
   pub gives : R → R → List ℕ → Type 0
   pub failed : R → Bool
 
-abbrev pub source_tells : {R : Type 0} → (R → R → Type 0) → (R → R → Type 0) → (R → R → List ℕ → Type 0) → (R → Bool) → SourceTells R
+abbrev pub source_tells : {R : Type 0} → (R → R → Type 0) → (R → R → Type 0) → (R → R → List ℕ → Type 0)
+    → (R → Bool) → SourceTells R
 source_tells {R} ends fails gives failed = record { ends = ends; fails = fails; gives = gives; failed = failed }
 
--- reads took lines, one after the other, each the codes of its line by the extra characters in force, and these are left
+-- reads took lines, one after the other, each the codes of its line by the extra characters in force, and these are
+-- left
 abbrev pub TookLines : List (ExtraTable × List ℕ) → List (List ℕ) → List (List ℕ) → Type 0
 TookLines [] lines left = lines ≡ left
 TookLines (read ∷ reads) [] left = ⊥
 TookLines (read ∷ reads) (line ∷ lines) left = (read.1 ≡ line_codes read.0 line) × TookLines reads lines left
 
--- the next line of a source is too long: it has given the lines that reads took, and then 65,536 bytes were taken, none a new
--- line, and it was not asked for more
-pub record HasMetBound {R : Type 0} (gives : R → R → List ℕ → Type 0) (before after : R) (reads : List (ExtraTable × List ℕ)) : Type 0 where
+-- the next line of a source is too long: it has given the lines that reads took, and then 65,536 bytes were taken, none
+-- a new line, and it was not asked for more
+pub record HasMetBound {R : Type 0} (gives : R → R → List ℕ → Type 0) (before after : R)
+    (reads : List (ExtraTable × List ℕ)) : Type 0 where
   pub lines : List (List ℕ)
   pub took : TookLines reads lines []
   pub start : R
@@ -111,15 +117,19 @@ pub record HasMetBound {R : Type 0} (gives : R → R → List ℕ → Type 0) (b
   pub gave : GaveLines gives before start lines old.ahead
   pub bound : MeetsBound gives start after old new
 
--- the last read of a source found no line: it found the end, or it failed, or too many bytes had come without a new line
+-- the last read of a source found no line: it found the end, or it failed, or too many bytes had come without a new
+-- line
 abbrev pub FoundNoLine : {R : Type 0} → SourceTells R → R → R → List (ExtraTable × List ℕ) → InputEnd → Type 0
 FoundNoLine {R} r before after reads End = HasJust r.ends after × (r.failed after ≡ false)
-FoundNoLine {R} r before after reads Failed = (HasJust r.fails after × (r.failed after ≡ true)) ⊎ ((r.failed after ≡ false) × HasMetBound r.gives before after reads)
+FoundNoLine {R} r before after reads Failed = (HasJust r.fails after × (r.failed after ≡ true))
+    ⊎ ((r.failed after ≡ false) × HasMetBound r.gives before after reads)
 
 -- ---- on the bytes of an input
 
--- what is heard of an input, where these bytes are left of it in the end, and the lines that are left: the lines of all of its
--- bytes; where a read of the source has failed, those that are complete in the bytes that had left it, and none is left
+-- what is heard of an input, where these bytes are left of it in the end, and the lines that are left: the lines of all
+-- of its bytes; where a read of the source has failed, those that are complete in the bytes that had left it, and none
+-- is left
 abbrev pub IsHeard : List ℕ → List ℕ → Bool → Heard → List (List ℕ) → Type 0
 IsHeard bytes later false h left = h ≡ heard bytes
-IsHeard bytes later true h left = (gone : List ℕ) × ((bytes ≡ gone ++ later) × (h ≡ record { lines = ended_lines gone; over = Failed }) × (left ≡ []))
+IsHeard bytes later true h left =
+    (gone : List ℕ) × ((bytes ≡ gone ++ later) × (h ≡ record { lines = ended_lines gone; over = Failed }) × (left ≡ []))

@@ -15,8 +15,8 @@ use Rattle.zk_vm.specs.Step.{State, Verdict, verdict_of, state_after}
 use Rattle.zk_vm.specs.Step.Verdict.{GoesOn, WaitsFor, StopsBy}
 use Rattle.zk_vm.specs.Answers.{Answer, answered}
 
--- a machine: the state of play, its limits, what it waits for, if it does, why it has stopped, if it has, and what is still
--- to come of the text of the instruction at its program counter, where a part of it was shown
+-- a machine: the state of play, its limits, what it waits for, if it does, why it has stopped, if it has, and what is
+-- still to come of the text of the instruction at its program counter, where a part of it was shown
 pub record Session : Type 0 where
   pub state : State
   pub limits : Limits
@@ -59,7 +59,8 @@ with_stop s stop = record s { waiting = None; stopped = Some stop; left = None }
 
 -- a machine whose screen has forgotten the grid that is gone
 abbrev pub with_grid_forgotten : Session → Session
-with_grid_forgotten s = record s { state = record s.state { game = record s.state.game { windows = forgotten s.state.game.windows } } }
+with_grid_forgotten s =
+    record s { state = record s.state { game = record s.state.game { windows = forgotten s.state.game.windows } } }
 
 -- a machine that was answered
 abbrev pub resumed : Session → Verdict → State → Session
@@ -69,7 +70,8 @@ resumed s (StopsBy stop) next = with_stop s stop
 
 abbrev pub given_to : Option Waiting → Session → Answer → Session
 given_to None s a = s
-given_to (Some waiting) s a = resumed s (verdict_of s.state (answered s.state waiting a)) (state_after s.state (answered s.state waiting a))
+given_to (Some waiting) s a =
+    resumed s (verdict_of s.state (answered s.state waiting a)) (state_after s.state (answered s.state waiting a))
 
 -- a machine that waits is given an answer
 unfoldable pub given : Session → Answer → Session

@@ -19,8 +19,8 @@ state_seen m = record {
   undo = states_in m.game.memory.file m.undo;
 }
 
--- the states to go back to are those of the story, and as many of them are kept as its memory says; the instructions that
--- were decoded before are the story's
+-- the states to go back to are those of the story, and as many of them are kept as its memory says; the instructions
+-- that were decoded before are the story's
 pub record IsOfStory (m : Inside) : Type 0 where
   pub are_of : AreOf m.game.memory m.game.frames m.undo
   pub memory : m.game.memory.undo_states ≡ m.limits.undo

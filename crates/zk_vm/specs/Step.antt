@@ -1,5 +1,6 @@
 -- A step of the Standard's machine (Standard, sections 4 to 6 and 15).
-use Rattle.std.specs.Prelude.{ℕ, ◌+◌, ◌-◌, Bool, true, false, ◌&&◌, ◌==◌, List, ◌∷◌, take, Option, Some, None, Result, Ok, Err, nat_lt, nat_le, if◌then◌else◌}
+use Rattle.std.specs.Prelude.{ℕ, ◌+◌, ◌-◌, Bool, true, false, ◌&&◌, ◌==◌, List, ◌∷◌, take, Option, Some, None, Result}
+use Rattle.std.specs.Prelude.{Ok, Err, nat_lt, nat_le, if◌then◌else◌}
 use Rattle.zk_mem.specs.declared.fault.Fault.{Fault}
 use Rattle.zk_mem.specs.Map.{MemoryMap}
 use Rattle.zk_code.specs.declared.instr.Instr.{Instr}
@@ -37,8 +38,8 @@ pub record State : Type 0 where
   pub due : List ℕ
   pub undo : List WholeState
 
--- A step goes on in a state, or waits in one for an answer, and shows some text; or it ends the story, is a fault, or what
--- it restores has too many frames or words, and it shows none.
+-- A step goes on in a state, or waits in one for an answer, and shows some text; or it ends the story, is a fault, or
+-- what it restores has too many frames or words, and it shows none.
 pub data Step : Type 0 where
   Goes : (state : State) (text : Texts) → Step
   Waits : (state : State) (waiting : Waiting) (text : Texts) → Step
@@ -62,7 +63,8 @@ is_read event.Restore = false
 
 -- an instruction that waits has shown what the view shows before a read
 abbrev pub waits_by : State → Instr → Event → Result (GameState × Texts) Fault → Step
-waits_by s i event = step_by (λ shown. Waits (record s { game = shown.0 }) (record { wait = event; instruction = i }) shown.1)
+waits_by s i event =
+    step_by (λ shown. Waits (record s { game = shown.0 }) (record { wait = event; instruction = i }) shown.1)
 
 -- the view is shown before a read alone
 abbrev pub view_before : Event → GameState → Result (GameState × Texts) Fault
@@ -72,7 +74,8 @@ view_before event w = if is_read event then viewed w else Ok (w, no_text)
 
 -- where an instruction leads that is finished in silence, with these states to go back to
 abbrev pub goes_to : State → List WholeState → Result (GameState × ℕ) Fault → Step
-goes_to s undo = step_by (λ found. Goes (record s { game = found.0; pc = found.1; steps = s.steps + 1; undo = undo }) no_text)
+goes_to s undo =
+    step_by (λ found. Goes (record s { game = found.0; pc = found.1; steps = s.steps + 1; undo = undo }) no_text)
 
 -- where the run goes on from a state that an instruction saves: its branch in version 3, its store byte from version 4
 -- on (Quetzal 1.4, section 5)
@@ -147,7 +150,8 @@ is_past_reads reads event = is_read event && nat_le most_reads reads
 -- what becomes of a run at a step from an address, after so many reads
 abbrev pub verdict_at : ℕ → ℕ → Step → Verdict
 verdict_at pc reads (Goes s text) = goes_by pc (within_bounds s.game.frames)
-verdict_at pc reads (Waits s waiting text) = if is_past_reads reads waiting.wait then StopsBy (stop.Limit pc Reads) else WaitsFor waiting
+verdict_at pc reads (Waits s waiting text) =
+    if is_past_reads reads waiting.wait then StopsBy (stop.Limit pc Reads) else WaitsFor waiting
 verdict_at pc reads Quits = StopsBy stop.Quit
 verdict_at pc reads (Faults f) = StopsBy (stop.Fault pc f)
 verdict_at pc reads (Exceeds l) = StopsBy (stop.Limit pc l)

@@ -4,8 +4,8 @@ ghost use Rattle.zk_vm.specs.Inside.{CleanStays, CleanStopsRead};
 ghost use Rattle.zk_vm.specs.Laws.{FrameLimitsOnlyCut, LimitsCutRuns, RunsStayWithin, StepLimitOnlyCuts};
 ghost use Rattle.zk_vm.specs.Log.{LogsJoin, OneLog, PartsJoin, PartsOnlyDivide};
 
-/// Every state that a run passes, whatever answers it gets, has no more frames, words, steps, reads and states to go back
-/// to than its limits say.
+/// Every state that a run passes, whatever answers it gets, has no more frames, words, steps, reads and states to go
+/// back to than its limits say.
 pub fn runs_stay_within()
     ensures { RunsStayWithin }
 {}
@@ -20,8 +20,8 @@ pub fn frame_limits_only_cut()
     ensures { FrameLimitsOnlyCut }
 {}
 
-/// The step that is one too many, the first step that passes a limit, and the first answer that does are where a machine
-/// stops, by that limit.
+/// The step that is one too many, the first step that passes a limit, and the first answer that does are where a
+/// machine stops, by that limit.
 pub fn limits_cut_runs()
     ensures { LimitsCutRuns }
 {}
@@ -33,7 +33,8 @@ pub fn clean_stays()
     ensures { CleanStays }
 {}
 
-/// Where runs stay clean in a set of addresses, none stops at an address of it by a fault of reading the instruction there.
+/// Where runs stay clean in a set of addresses, none stops at an address of it by a fault of reading the instruction
+/// there.
 pub fn clean_stops_read()
     ensures { CleanStopsRead }
 {}

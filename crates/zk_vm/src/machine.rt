@@ -1,6 +1,7 @@
 // A machine that runs a story.
 
-ghost use Rattle.std.specs.Prelude.{◌≡◌, ◌≤◌, ◌<◌, ◌+◌, ◌-◌, ◌^◌, true, false, nat_lt, if◌then◌else◌, Some, None, Ok, Err, IfOk};
+ghost use Rattle.std.specs.Prelude.{◌≡◌, ◌≤◌, ◌<◌, ◌+◌, ◌-◌, ◌^◌, true, false, nat_lt, if◌then◌else◌, Some, None, Ok};
+ghost use Rattle.std.specs.Prelude.{Err, IfOk};
 ghost use Rattle.zk_state.specs.Frames.{IsBounded, bounds_of};
 ghost use Rattle.zk_vm.specs.Bounds.{AreInRange};
 ghost use Rattle.zk_vm.specs.Going.{stop_by, verdict_by, pc_by, steps_by, stopped_by};

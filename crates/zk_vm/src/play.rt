@@ -1,11 +1,13 @@
 // Playing a story on devices.
 
-ghost use Rattle.std.specs.Prelude.{◌≡◌, ◌≤◌, ◌<◌, ◌+◌, ◌⊎◌, ◌++◌, ◌||◌, List, ℕ, length, true, false, None, Some, IfOk, IfErr, OnOk, OnErr};
+ghost use Rattle.std.specs.Prelude.{◌≡◌, ◌≤◌, ◌<◌, ◌+◌, ◌⊎◌, ◌++◌, ◌||◌, List, ℕ, length, true, false, None, Some};
+ghost use Rattle.std.specs.Prelude.{IfOk, IfErr, OnOk, OnErr};
 ghost use Rattle.std.specs.List.{AllByRecursion};
 ghost use Rattle.zk_text.specs.Extra.{is_input_code, own_characters};
 ghost use Rattle.zk_term.specs.Devices.{HasJust, Shows};
 ghost use Rattle.zk_term.specs.declared.lines.InputEnd.{InputEnd};
-ghost use Rattle.zk_term.specs.Lines.{Hears, FailsAlone, HasInputCodes, IsOverAfter, MeetsBound, ReadFailed, TakesAnswer, over_input};
+ghost use Rattle.zk_term.specs.Lines.{Hears, FailsAlone, HasInputCodes, IsOverAfter, MeetsBound, ReadFailed};
+ghost use Rattle.zk_term.specs.Lines.{TakesAnswer, over_input};
 ghost use Rattle.zk_vm.specs.Answers.{first_code};
 ghost use Rattle.zk_vm.specs.Answers.Answer.{Typed};
 ghost use Rattle.zk_vm.specs.Halts.{IsLeftAs, event_waited};
@@ -122,9 +124,9 @@ fn bring<K: SaveSlot>(alloc: Global, slot: &mut K, machine: &mut Machine) -> Res
     Ok(())
 }
 
-/// Runs a story up to its next event, a read or a saved game, or its stop. Text goes out as UTF-8, some of it at a time: when
-/// it returns, all text up to there is written. Once a write has failed nothing more is written to either target, and the
-/// machine is closed with `Write`. It is not waiting, and neither target has failed.
+/// Runs a story up to its next event, a read or a saved game, or its stop. Text goes out as UTF-8, some of it at a
+/// time: when it returns, all text up to there is written. Once a write has failed nothing more is written to either
+/// target, and the machine is closed with `Write`. It is not waiting, and neither target has failed.
 pub fn run_on<S: Target, T: Target, P: Places>(
     screen: &mut S,
     script: &mut T,
@@ -152,7 +154,7 @@ pub fn run_on<S: Target, T: Target, P: Places>(
     ensures within { IsWithin machine.new.limits machine.new.state }
 {
     let mut console = BufferedScreen::new(screen, script);
-    let answer = machine.run_noting(&mut console, places);
+    let answer = machine.run(&mut console, places);
     console.finish();
     if console.has_failed() {
         machine.close(Stop::Write);
@@ -164,8 +166,9 @@ pub fn run_on<S: Target, T: Target, P: Places>(
 /// Runs a story up to its next read, or its stop; the slot keeps and gives saved games on the way.
 /// Text goes out as UTF-8, some of it at a time: when it returns, and before the slot is asked, all text up to there is
 /// written, and the screen holds nothing back. Once a write has failed nothing more is written to either target, the
-/// slot is not asked, and the machine is closed with `Write`; what went out is a first part of the text. Where there is no memory for a saved game or a state that is to be kept,
-/// the stop is `Memory`. The machine is not waiting, and neither target has failed.
+/// slot is not asked, and the machine is closed with `Write`; what went out is a first part of the text. Where there is
+/// no memory for a saved game or a state that is to be kept, the stop is `Memory`. The machine is not waiting, and
+/// neither target has failed.
 pub fn turn<S: Target, T: Target, K: SaveSlot, P: Places>(
     alloc: Global,
     screen: &mut S,
@@ -277,9 +280,10 @@ fn close(machine: &mut Machine, stop: Stop) -> Stop
 /// Plays a story up to its stop, and ends the machine with it: turn after turn, whose reads the lines of the
 /// reader answer. The reader is asked between turns alone, when all text up to there is written; a read that
 /// finds no line ends the story with `EndOfInput` or, where the reader fails or a line is too long, with
-/// `Read`, and the reader is not asked again; a story that does not read leaves it alone. Once a write has failed nothing more is written to either target, and the stop is `Write`: what
-/// went out is a first part of the text. The slot keeps and gives saved games; where there is no memory for one, or
-/// for a state that is to be kept, the stop is `Memory`. The machine is not waiting, and no device has failed.
+/// `Read`, and the reader is not asked again; a story that does not read leaves it alone. Once a write has failed
+/// nothing more is written to either target, and the stop is `Write`: what went out is a first part of the text. The
+/// slot keeps and gives saved games; where there is no memory for one, or for a state that is to be kept, the stop is
+/// `Memory`. The machine is not waiting, and no device has failed.
 pub fn play<R: Source, S: Target, T: Target, K: SaveSlot, P: Places>(
     alloc: Global,
     reader: &mut R,

@@ -3,12 +3,11 @@
 
 ghost use Rattle.std.specs.Prelude.{◌≡◌, ◌⊎◌, false};
 ghost use Rattle.clap.specs.Words.{kind_of};
-ghost use Rattle.zk_vm.specs.Bounds.{AreInRange};
 ghost use Rattle.zk_command.specs.CommandLine.{usage_status};
 
 use clap::Error;
 use clap::error::ErrorKind;
-use std::alloc::AllocError;
+use std::alloc::{AllocError, Global};
 use std::env::{self, Env, FillError};
 use std::fs::{self, OpenOptions};
 use std::io;
@@ -24,7 +23,7 @@ use zk_command::settings::PlayOptions;
 use zk_command::shown::Shown;
 use zk_program::files::paths_listed;
 use zk_program::list::list_all;
-use zk_program::play::play;
+use zk_program::play::{OpenPlay, play};
 use zk_program::suite::{Testing, test};
 use zk_program::told::{out_of_memory, tell_reason};
 use zk_program::unpack::unpack;
@@ -88,16 +87,6 @@ fn tell_command(rt: &HostRuntime, arguments: &[&str], error: &Error) {
     }
 }
 
-/// Plays the story in a file, unless an option names that file.
-fn play_with<'a>(rt: &HostRuntime, story: &'a str, options: &PlayOptions<'a>) -> u8
-    requires { AreInRange options.now.limits }
-{
-    match option_on_story(rt, story, options) {
-        Some(option) => tell_usage(rt, &story_named(rt.alloc(), option)),
-        None => play(rt, story, options),
-    }
-}
-
 /// Tells that an argument is no text, and answers the program's status.
 fn tell_no_text(rt: &HostRuntime) -> u8
     ensures { result ≡ 1 }
@@ -106,9 +95,33 @@ fn tell_no_text(rt: &HostRuntime) -> u8
     1
 }
 
-/// Does what arguments ask for, and answers the program's status. A path that is no text is left out where stories are
-/// listed; nothing else is done by such an argument.
-fn answer_texts(rt: &HostRuntime, arguments: &[&str], counted: bool) -> u8 {
+/// Arguments with the paths of a list after them, if there is one.
+fn with_paths<'a>(
+    alloc: Global,
+    arguments: &'a [String],
+    paths: Option<&'a [String]>,
+) -> Result<Vec<&'a str>, AllocError> {
+    let mut all = Vec::new(alloc);
+    for argument in arguments {
+        all.push(argument.as_str())?;
+    }
+    let Some(paths) = paths else {
+        return Ok(all);
+    };
+    all.push("--")?;
+    for path in paths {
+        all.push(path.as_str())?;
+    }
+    Ok(all)
+}
+
+/// Does what arguments ask for, with the paths of a list after them, if there is one; and answers the program's status.
+/// A path that is no text is left out where stories are listed; nothing else is done by such an argument.
+fn answer(rt: &HostRuntime, arguments: &[String], paths: Option<&[String]>) -> u8 {
+    let Ok(arguments) = with_paths(rt.alloc(), arguments, paths) else {
+        return out_of_memory(rt);
+    };
+    let arguments = arguments.as_slice();
     let are_text = !arguments.iter().any(|argument| argument.contains(NO_TEXT));
     match choose(rt.alloc(), arguments) {
         Ok(
@@ -118,9 +131,22 @@ fn answer_texts(rt: &HostRuntime, arguments: &[&str], counted: bool) -> u8 {
                 options,
                 listing,
             },
-        ) => list_all(rt, stories.as_slice(), &roots, options, listing, counted),
+        ) => list_all(
+            rt,
+            stories.as_slice(),
+            &roots,
+            options,
+            listing,
+            paths.is_some(),
+        ),
         _ if !are_text => tell_no_text(rt),
-        Ok(Choice::Play { story, options }) => play_with(rt, story, &options),
+        Ok(Choice::Play { story, options }) => match option_on_story(rt, story, &options) {
+            Some(option) => tell_usage(rt, &story_named(rt.alloc(), option)),
+            None => match OpenPlay::new(rt, story, options) {
+                Ok((opened, cover)) => play(rt, &opened, cover),
+                Err(status) => status,
+            },
+        },
         Ok(
             Choice::Test {
                 paths,
@@ -133,42 +159,6 @@ fn answer_texts(rt: &HostRuntime, arguments: &[&str], counted: bool) -> u8 {
             let status = tell_usage(rt, &error);
             tell_command(rt, arguments, &error);
             status
-        }
-    }
-}
-
-/// Does what arguments and a list of paths after them ask for, and answers the program's status. An empty list asks for
-/// nothing.
-fn answer_with_list(rt: &HostRuntime, arguments: &[&str], paths: &[String]) -> u8 {
-    let mut all = Vec::new(rt.alloc());
-    let added = all.extend_from_slice(arguments).is_ok() && all.push("--").is_ok();
-    if !added {
-        return out_of_memory(rt);
-    }
-    for path in paths {
-        if all.push(path.as_str()).is_err() {
-            return out_of_memory(rt);
-        }
-    }
-    answer_texts(rt, all.as_slice(), true)
-}
-
-/// Does what the arguments ask for, and answers the program's status.
-fn answer(rt: &HostRuntime, arguments: &[String]) -> u8 {
-    let Ok(arguments) = arguments
-        .iter()
-        .map(|argument| argument.as_str())
-        .collect::<Vec<&str>>(rt.alloc())
-    else {
-        return out_of_memory(rt);
-    };
-    match paths_listed(rt, arguments.as_slice()) {
-        None => answer_texts(rt, arguments.as_slice(), false),
-        Some(Ok(paths)) if paths.is_empty() => 0,
-        Some(Ok(paths)) => answer_with_list(rt, arguments.as_slice(), paths.as_slice()),
-        Some(Err(error)) => {
-            tell_reason(rt, "the list of paths", &error);
-            4
         }
     }
 }
@@ -225,7 +215,16 @@ fn hold_numbers(rt: &HostRuntime) {
 fn main(rt: HostRuntime) -> ExitCode {
     hold_numbers(&rt);
     let status = match read_arguments(&rt) {
-        Ok(arguments) => answer(&rt, arguments.as_slice()),
+        Ok(arguments) => match paths_listed(&rt, arguments.as_slice()) {
+            None => answer(&rt, arguments.as_slice(), None),
+            // an empty list asks for nothing
+            Some(Ok(paths)) if paths.is_empty() => 0,
+            Some(Ok(paths)) => answer(&rt, arguments.as_slice(), Some(paths.as_slice())),
+            Some(Err(error)) => {
+                tell_reason(&rt, "the list of paths", &error);
+                4
+            }
+        },
         Err(_) => out_of_memory(&rt),
     };
     ExitCode::from(status)

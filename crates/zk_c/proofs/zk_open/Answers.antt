@@ -12,7 +12,9 @@ pub returns-in-Ok : goal.returns-in-Ok
 returns-in-Ok c =
     let said = c.in-Some.ensures.said in
     Opened (subst AreLimits said.0 said.1) c.in-Ok.ensures.story
-    (c.put.ensures ∙ ap (λ p. Some p) (c.in-Ok.ensures.begun ∙ (λ i. begun_play c.args.story.now c.args.seed (said.0 i) (c.view_if.ensures i))))
+    (c.put.ensures ∙ ap (λ p. Some p) (c.in-Ok.ensures.begun
+    ∙ (λ i. begun_play c.args.story.now c.args.seed (said.0 i) (c.view_if.ensures i))))
 
 pub returns-in-Err : goal.returns-in-Err
-returns-in-Err c = let said = c.in-Some.ensures.said in not_opened _ _ _ _ _ c.in-Err.error _ (subst AreLimits said.0 said.1) c.number.ensures c.in-Err.ensures.refused
+returns-in-Err c = let said = c.in-Some.ensures.said in not_opened _ _ _ _ _ c.in-Err.error _
+    (subst AreLimits said.0 said.1) c.number.ensures c.in-Err.ensures.refused

@@ -10,11 +10,13 @@ returns-in-None c = NoLimits (c.limits_said.ensures.none c.in-None.is) refl
 pub returns-in-Ok : goal.returns-in-Ok
 returns-in-Ok c =
     let said = c.in-Some.ensures.said in
-    subst (λ (l : Limits). IsOpenedAgain c.args.game.now.play c.put.new.self.play c.args.story.now c.args.snapshot.now l 0) said.0
+    subst (λ (l : Limits). IsOpenedAgain c.args.game.now.play c.put.new.self.play c.args.story.now
+    c.args.snapshot.now l 0) said.0
     (InRange 0 (Ok c.in-Ok.play) said.1 c.in-Ok.ensures (refl, search rules))
 
 pub returns-in-Err : goal.returns-in-Err
 returns-in-Err c =
     let said = c.in-Some.ensures.said in
-    subst (λ (l : Limits). IsOpenedAgain c.args.game.now.play c.args.game.now.play c.args.story.now c.args.snapshot.now l c.snapshot_number.result) said.0
+    subst (λ (l : Limits). IsOpenedAgain c.args.game.now.play c.args.game.now.play c.args.story.now
+    c.args.snapshot.now l c.snapshot_number.result) said.0
     (InRange c.snapshot_number.result (Err c.in-Err.refusal) said.1 c.in-Err.ensures (c.snapshot_number.ensures, refl))

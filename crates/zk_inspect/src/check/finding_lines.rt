@@ -9,8 +9,8 @@ use itoa::Buffer;
 use zk_term::line_writer::LineWriter;
 use zk_term::writing::{hex_digits_of, write_texts, zeros_before};
 
-/// Writes the line of a finding: its number after a `C`, its byte address of five hexadecimal digits at least, and what is wrong
-/// in words.
+/// Writes the line of a finding: its number after a `C`, its byte address of five hexadecimal digits at least, and what
+/// is wrong in words.
 #[tactic(auto, unfolding(crate::specs::FindingLines::finding_line, zk_term::specs::Numbers::address_digits))]
 pub(crate) fn write_finding<P: LineWriter>(writer: &mut P, finding: Finding)
     ensures { P.wrote writer.old writer.new (finding_line finding) }

@@ -38,7 +38,8 @@ fn find_fall(memory: &Memory, dictionary: Dictionary) -> Option<u16>
     None
 }
 
-/// The address of the first entry that does not come after the one before it, in a dictionary that says that it is sorted.
+/// The address of the first entry that does not come after the one before it, in a dictionary that says that it is
+/// sorted.
 fn list_fall(
     alloc: Global,
     memory: &Memory,
@@ -63,8 +64,8 @@ fn list_fall(
     }
 }
 
-/// The address of the first entry that does not come after the one before it, in a dictionary that says that it is sorted
-/// and lies whole in readable data.
+/// The address of the first entry that does not come after the one before it, in a dictionary that says that it is
+/// sorted and lies whole in readable data.
 pub(crate) fn find_unordered(alloc: Global, memory: &Memory) -> Result<Addresses, AllocError>
     ensures { IfOk result (IsListOf (Finds memory.now Number.DictionaryOrder)) }
 {

@@ -42,8 +42,8 @@ fn twice_as_far(alloc: Global, list: &[u16]) -> Result<Vec<u16>, AllocError>
     Ok(far)
 }
 
-/// At each object's number, the one 65,536 siblings on. It is 0 where the siblings come to an end or to an object without
-/// an entry, for there are fewer objects; else they repeat one.
+/// At each object's number, the one 65,536 siblings on. It is 0 where the siblings come to an end or to an object
+/// without an entry, for there are fewer objects; else they repeat one.
 pub(crate) fn list_far_siblings(alloc: Global, memory: &Memory) -> Result<Vec<u16>, AllocError>
     ensures { IfOk result (λ list. IsAhead memory.now 65536 list.items) }
 {

@@ -55,8 +55,8 @@ fn abbreviation_has(memory: &Memory, kind: TextFault, address: u32) -> bool
     }
 }
 
-/// Whether a text that is marked at the address that a sweep has come to has a fault of a kind, or a word of the table of
-/// abbreviations there can't be read, for which abbreviations have no end.
+/// Whether a text that is marked at the address that a sweep has come to has a fault of a kind, or a word of the table
+/// of abbreviations there can't be read, for which abbreviations have no end.
 fn text_fails(
     memory: &Memory,
     marks: &TextAddresses,
@@ -98,8 +98,8 @@ fn list_if_failing(
 /// The addresses of texts that have a fault, the last one first.
 #[derive(Drop)]
 pub(crate) struct FailingTexts {
-    /// Of those that have no end in the story, or that use an abbreviation without one, and of the words of the table of
-    /// abbreviations that can't be read.
+    /// Of those that have no end in the story, or that use an abbreviation without one, and of the words of the table
+    /// of abbreviations that can't be read.
     past_end: Addresses,
     /// Of abbreviations that use one, and of texts that use such an abbreviation.
     nested: Addresses,

@@ -8,7 +8,8 @@ ghost use Rattle.zk_code.specs.Reach.{IsReached};
 ghost use Rattle.zk_inspect.specs.Codes.{IsCodeOf};
 ghost use Rattle.zk_inspect.specs.ObjectTests.{IsCounted};
 ghost use Rattle.zk_inspect.specs.Texts.{IsPrinted, addressed_by, constant_text, text_named};
-ghost use Rattle.zk_inspect.specs.TextTests.{AreTableMarks, AreTextMarks, IsTableMarks, IsTextMarks, Keeps, NamesMarked, TextsMarked, is_marked};
+ghost use Rattle.zk_inspect.specs.TextTests.{AreTableMarks, AreTextMarks, IsTableMarks, IsTextMarks, Keeps};
+ghost use Rattle.zk_inspect.specs.TextTests.{NamesMarked, TextsMarked, is_marked};
 ghost use Rattle.zk_inspect.specs.Lists.{IsMarked};
 
 use crate::reach::address_set::{AddressSet, unmarked};
@@ -27,8 +28,8 @@ use zk_tables::properties::name;
 /// more bytes.
 pub(crate) const TEXTS_END: u32 = 524_289;
 
-/// No abbreviation is looked for at or above this address: the highest word address is twice 65,535. Nor has the table of
-/// abbreviations a word there.
+/// No abbreviation is looked for at or above this address: the highest word address is twice 65,535. Nor has the table
+/// of abbreviations a word there.
 const ABBREVIATIONS_END: u32 = 131_071;
 
 /// The byte address of the text that an operation prints by a constant.

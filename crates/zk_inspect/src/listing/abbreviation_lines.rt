@@ -29,7 +29,8 @@ fn write_checked<P: LineWriter>(writer: &mut P, memory: &Memory, address: u32)
     }
 }
 
-/// Writes what the text of an abbreviation prints, or why it prints nothing. Once a write has failed no text is looked at.
+/// Writes what the text of an abbreviation prints, or why it prints nothing. Once a write has failed no text is looked
+/// at.
 fn write_text<P: LineWriter>(writer: &mut P, memory: &Memory, address: u32)
     ensures { P.wrote writer.old writer.new
         (units_text memory.now (meaning_at no_abbreviation memory.now address)) }
@@ -38,8 +39,9 @@ fn write_text<P: LineWriter>(writer: &mut P, memory: &Memory, address: u32)
     write_checked(writer, memory, address);
 }
 
-/// The byte address of the text that an abbreviation stands for, by its number, or why it stands for nothing: `TextPastEnd`
-/// where there is no text, and `NestedAbbreviation` where the text uses an abbreviation (Standard, section 3.3).
+/// The byte address of the text that an abbreviation stands for, by its number, or why it stands for nothing:
+/// `TextPastEnd` where there is no text, and `NestedAbbreviation` where the text uses an abbreviation (Standard,
+/// section 3.3).
 pub fn abbreviation_text(memory: &Memory, number: u8) -> Result<u32, Fault>
     ensures text { IfOk result (λ a. text_units memory.now a ≡ abbreviation memory.now number) }
     ensures meaning { IfOk result (λ a. IsOk (text_units memory.now a)) }

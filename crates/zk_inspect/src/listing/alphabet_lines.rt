@@ -2,7 +2,8 @@
 
 ghost use Rattle.std.specs.Prelude.{◌≡◌, ◌+◌, ◌-◌, ◌≤◌, ◌<◌, ◌++◌, codes};
 ghost use Rattle.std.specs.List.{flat_map, range_with_len};
-ghost use Rattle.zk_inspect.specs.AlphabetLines.{alphabet_facts, alphabet_line, code_text, extra_line, extra_text, first_letter, letter_text, row_name};
+ghost use Rattle.zk_inspect.specs.AlphabetLines.{alphabet_facts, alphabet_line, code_text, extra_line, extra_text};
+ghost use Rattle.zk_inspect.specs.AlphabetLines.{first_letter, letter_text, row_name};
 
 use crate::fact::{Fact, FactWriter};
 use crate::listing::quoting::write_code;

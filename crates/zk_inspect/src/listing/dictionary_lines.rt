@@ -7,7 +7,9 @@ ghost use Rattle.zk_text.specs.Pieces.{a1_cut, a2_cut, abbreviation_cut, code_cu
 ghost use Rattle.zk_text.specs.Words.{z_characters};
 ghost use Rattle.zk_text.specs.declared.unit.Unit.{Unit};
 ghost use Rattle.zk_tables.specs.Dictionaries.{IsDictionaryOf, entry_start};
-ghost use Rattle.zk_inspect.specs.DictionaryLines.{dictionary_facts, entry_front, fault_line, key_characters, piece_units, separator_text, separators_line, separators_text, size_line, table_facts, word_line, word_of, word_units};
+ghost use Rattle.zk_inspect.specs.DictionaryLines.{dictionary_facts, entry_front, fault_line, key_characters};
+ghost use Rattle.zk_inspect.specs.DictionaryLines.{piece_units, separator_text, separators_line, separators_text};
+ghost use Rattle.zk_inspect.specs.DictionaryLines.{size_line, table_facts, word_line, word_of, word_units};
 ghost use Rattle.zk_inspect.specs.Quoted.{quoted_units};
 
 use crate::fact::{Fact, FactWriter, Word};
@@ -168,9 +170,9 @@ fn key_characters(memory: &Memory, address: u32) -> ArrayVec<u8, 9>
     characters
 }
 
-/// Gives a sink the units of the word whose key stands at a byte address: what its Z-characters stand for, where abbreviations
-/// stand for nothing (Z-Machine Standards Document 1.1, sections 3.7, 13.3 and 13.4). Where the sink refuses, it was given a first
-/// part of them.
+/// Gives a sink the units of the word whose key stands at a byte address: what its Z-characters stand for, where
+/// abbreviations stand for nothing (Z-Machine Standards Document 1.1, sections 3.7, 13.3 and 13.4). Where the sink
+/// refuses, it was given a first part of them.
 pub fn give_key<S: Sink>(memory: &Memory, address: u32, sink: &mut S) -> Result<(), SinkFault>
     ensures ok { OnOk result (S.gave sink.old sink.new
         (word_units memory.now (key_characters memory.now address))) }

@@ -1,7 +1,8 @@
 // The lines of a header.
 
 ghost use Rattle.std.specs.Prelude.{◌≡◌, map};
-ghost use Rattle.zk_inspect.specs.HeaderLines.{field_line, header_facts, late_facts, serial_shown, value_of, value_text, visible_byte};
+ghost use Rattle.zk_inspect.specs.HeaderLines.{field_line, header_facts, late_facts, serial_shown, value_of};
+ghost use Rattle.zk_inspect.specs.HeaderLines.{value_text, visible_byte};
 
 use crate::fact::{Fact, FactWriter, Field};
 use zk_mem::header::unpack;

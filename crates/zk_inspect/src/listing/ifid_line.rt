@@ -1,7 +1,9 @@
 // What catalogues name a story by.
 
 ghost use Rattle.std.specs.Prelude.{◌≡◌, ◌≤◌, ◌<◌, ◌-◌, length, map, nat_lt, option_map, if◌then◌else◌};
-ghost use Rattle.zk_inspect.specs.Ifid.{capital_digits, capital_letter, first_name, header_name, ifid, ifid_line, is_digit, is_early, is_letter, is_name_byte, name_in_front, name_length, named_byte, names_sum, serial_named, sum_text};
+ghost use Rattle.zk_inspect.specs.Ifid.{capital_digits, capital_letter, first_name, header_name, ifid, ifid_line};
+ghost use Rattle.zk_inspect.specs.Ifid.{is_digit, is_early, is_letter, is_name_byte, name_in_front, name_length};
+ghost use Rattle.zk_inspect.specs.Ifid.{named_byte, names_sum, serial_named, sum_text};
 
 use zk_mem::header::Header;
 use zk_mem::memory::Memory;
@@ -30,7 +32,7 @@ fn is_name_byte(byte: u8) -> bool
 }
 
 /// How many letters, digits and hyphens bytes begin with.
-#[tactic(auto, using(crate::proofs::StoryNames::length_on, crate::proofs::StoryNames::length_stops, crate::proofs::StoryNames::length_ends))]
+#[tactic(auto, using(crate::proofs::StoryNames::of_name_length))]
 fn name_length(bytes: &[u8]) -> usize
     ensures value { result ≡ name_length bytes.now }
     ensures within { result ≤ length bytes.now }
@@ -120,8 +122,8 @@ fn serial_named(serial: [u8; 6]) -> [u8; 6]
     ]
 }
 
-/// Whether a name by the header says the checksum: where the serial number begins with a digit other than 8, and is not all
-/// zeros.
+/// Whether a name by the header says the checksum: where the serial number begins with a digit other than 8, and is not
+/// all zeros.
 fn names_sum(serial: [u8; 6]) -> bool
     ensures { result ≡ names_sum serial }
 {
@@ -181,8 +183,8 @@ fn write_own_name<P: LineWriter>(writer: &mut P, name: &[u8])
     }
 }
 
-/// Writes what catalogues name a story by (Treaty of Babel): the name by which it names itself, where that was usual, or a name
-/// by its header.
+/// Writes what catalogues name a story by (Treaty of Babel): the name by which it names itself, where that was usual,
+/// or a name by its header.
 #[tactic(auto, unfolding(crate::specs::Ifid::ifid_line))]
 pub fn write_ifid<P: LineWriter>(writer: &mut P, memory: &Memory)
     ensures { P.wrote writer.old writer.new (ifid_line memory.now) }

@@ -1,13 +1,16 @@
 // The lines of objects.
 
-ghost use Rattle.std.specs.Prelude.{◌≡◌, ◌≤◌, ◌<◌, ◌+◌, ◌++◌, ◌∷◌, [], codes, decimal, length, map, IsOk, if◌then◌else◌};
+ghost use Rattle.std.specs.Prelude.{◌≡◌, ◌≤◌, ◌<◌, ◌+◌, ◌++◌, ◌∷◌, [], codes, decimal, length, map, IsOk};
+ghost use Rattle.std.specs.Prelude.{if◌then◌else◌};
 ghost use Rattle.std.specs.List.{flat_map, range_with_len};
 ghost use Rattle.zk_tables.specs.Attributes.{attribute_at};
 ghost use Rattle.zk_tables.specs.Links.{link_at, parent_of, sibling_of, child_of};
 ghost use Rattle.zk_tables.specs.Properties.{name_of, properties_of};
 ghost use Rattle.zk_tables.specs.PropertyList.{properties_at, properties_from};
 ghost use Rattle.zk_inspect.specs.Facts.{GaveSome};
-ghost use Rattle.zk_inspect.specs.ObjectLines.{AreObjectFacts, attributes_of, is_set, label_text, links_text, name_text, number_or_none, object_line, properties_or_none, properties_text, property_text, separated};
+ghost use Rattle.zk_inspect.specs.ObjectLines.{AreObjectFacts, attributes_of, is_set, label_text, links_text};
+ghost use Rattle.zk_inspect.specs.ObjectLines.{name_text, number_or_none, object_line, properties_or_none};
+ghost use Rattle.zk_inspect.specs.ObjectLines.{properties_text, property_text, separated};
 
 use crate::fact::{Fact, FactWriter};
 use crate::listing::quoting::write_quoted;

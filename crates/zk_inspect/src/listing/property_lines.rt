@@ -6,7 +6,8 @@ ghost use Rattle.zk_tables.specs.Properties.{properties_of};
 ghost use Rattle.zk_tables.specs.PropertyList.{properties_at, properties_from};
 ghost use Rattle.zk_inspect.specs.ObjectLines.{properties_or_none};
 ghost use Rattle.zk_inspect.specs.Facts.{GaveSome};
-ghost use Rattle.zk_inspect.specs.PropertyBytes.{ArePropertyFacts, byte_text, no_properties_line, object_properties, properties_by, property_line};
+ghost use Rattle.zk_inspect.specs.PropertyBytes.{ArePropertyFacts, byte_text, no_properties_line, object_properties};
+ghost use Rattle.zk_inspect.specs.PropertyBytes.{properties_by, property_line};
 
 use crate::fact::{Fact, FactWriter};
 use crate::listing::reading::byte_after;

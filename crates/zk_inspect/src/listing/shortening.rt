@@ -1,6 +1,7 @@
 // Texts between quotes, shortened.
 
-ghost use Rattle.std.specs.Prelude.{◌≡◌, ◌++◌, ◌∷◌, ◌≤◌, [], List, ℕ, Ok, take, length, nat_le, if◌then◌else◌, codes, IsOk};
+ghost use Rattle.std.specs.Prelude.{◌≡◌, ◌++◌, ◌∷◌, ◌≤◌, [], List, ℕ, Ok, take, length, nat_le, if◌then◌else◌, codes};
+ghost use Rattle.std.specs.Prelude.{IsOk};
 ghost use Rattle.zk_text.specs.Extra.{own_characters};
 ghost use Rattle.zk_text.specs.Meaning.{text_units};
 ghost use Rattle.zk_text.specs.Shown.{shown_all};

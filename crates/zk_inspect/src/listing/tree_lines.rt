@@ -4,7 +4,8 @@ ghost use Rattle.std.specs.Prelude.{◌≡◌, ◌<◌, ◌≤◌, ◌==◌, [],
 ghost use Rattle.zk_tables.specs.Links.{link_at, parent_of};
 ghost use Rattle.zk_inspect.specs.ObjectLines.{number_or_none};
 ghost use Rattle.zk_inspect.specs.Facts.{GaveSome};
-ghost use Rattle.zk_inspect.specs.TreeLines.{AreRows, AreSomeRows, AreTreeRows, HasNoParent, IsUpTo, again_text, indent, row_line, row_text};
+ghost use Rattle.zk_inspect.specs.TreeLines.{AreRows, AreSomeRows, AreTreeRows, HasNoParent, IsUpTo, again_text};
+ghost use Rattle.zk_inspect.specs.TreeLines.{indent, row_line, row_text};
 
 use crate::fact::{Fact, FactWriter, Node};
 use crate::listing::object_lines::{number_or_none, write_label};
@@ -92,8 +93,8 @@ impl Walk {
         Ok(number_or_none(child(memory, object)))
     }
 
-    /// Lists an object, if there is one of its number, and goes on: to its child where it is listed for the first time, and
-    /// else to where its chain of siblings goes on above.
+    /// Lists an object, if there is one of its number, and goes on: to its child where it is listed for the first time,
+    /// and else to where its chain of siblings goes on above.
     fn step<F: FactWriter>(
         &mut self,
         facts: &mut F,

@@ -4,7 +4,8 @@ ghost use Rattle.std.specs.Prelude.{◌≡◌, ◌≤◌, ◌∷◌, ◌++◌, �
 ghost use Rattle.zk_code.specs.Table.{name_of};
 ghost use Rattle.zk_code.specs.Reading.{instr_at};
 ghost use Rattle.zk_inspect.specs.Notes.{noted_line, noted_text, notes};
-ghost use Rattle.zk_inspect.specs.Listing.{address_line, code_facts, found_text, instruction_text, lying_routine, origin_line, routine_line, text_text, whole_facts};
+ghost use Rattle.zk_inspect.specs.Listing.{address_line, code_facts, found_text, instruction_text, lying_routine};
+ghost use Rattle.zk_inspect.specs.Listing.{origin_line, routine_line, text_text, whole_facts};
 
 use crate::fact::{Fact, FactWriter};
 use crate::listing::quoting::write_quoted;

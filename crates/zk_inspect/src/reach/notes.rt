@@ -7,7 +7,10 @@ ghost use Rattle.zk_text.specs.Meaning.{text_units};
 ghost use Rattle.zk_tables.specs.Properties.{name_of};
 ghost use Rattle.zk_inspect.specs.Listing.{names_variable};
 ghost use Rattle.zk_inspect.specs.ObjectLines.{name_text};
-ghost use Rattle.zk_inspect.specs.Notes.{asked_meaning, asked_second, changed_second, constant_note, first_meaning, global_note, has_variable, is_number, is_variable, notes, operand_note, operand_notes, place_note, printed_meaning, refers_to, routine_note, second_meaning, second_note, short_text};
+ghost use Rattle.zk_inspect.specs.Notes.{asked_meaning, asked_second, changed_second, constant_note, first_meaning};
+ghost use Rattle.zk_inspect.specs.Notes.{global_note, has_variable, is_number, is_variable, notes, operand_note};
+ghost use Rattle.zk_inspect.specs.Notes.{operand_notes, place_note, printed_meaning, refers_to, routine_note};
+ghost use Rattle.zk_inspect.specs.Notes.{second_meaning, second_note, short_text};
 
 use crate::listing::global_lines::write_place;
 use crate::listing::object_lines::write_name;

@@ -3,7 +3,9 @@
 ghost use Rattle.std.specs.Prelude.{◌≡◌, ◌≤◌, ◌^◌, ◌∷◌, ◌++◌};
 ghost use Rattle.std.specs.List.{flat_map};
 ghost use Rattle.zk_code.specs.Operands.{constant_of};
-ghost use Rattle.zk_inspect.specs.Listing.{branch_text, first_text, further_text, jump_text, names_variable, operand_text, operands_text, reference_text, store_text, takes_variable, target_text, variable_text};
+ghost use Rattle.zk_inspect.specs.Listing.{branch_text, first_text, further_text, jump_text, names_variable};
+ghost use Rattle.zk_inspect.specs.Listing.{operand_text, operands_text, reference_text, store_text, takes_variable};
+ghost use Rattle.zk_inspect.specs.Listing.{target_text, variable_text};
 
 use crate::listing::writing::{write_byte, write_word};
 use zk_code::branch::{Branch, BranchTarget as Destination};

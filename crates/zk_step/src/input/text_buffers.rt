@@ -4,7 +4,9 @@ ghost use Rattle.std.specs.Prelude.{◌≡◌, ◌≤◌, ◌<◌, ◌+◌, ◌-
 ghost use Rattle.zk_text.specs.Extra.{own_characters, lower_code};
 ghost use Rattle.zk_step.specs.Laws.{fixed_parts};
 ghost use Rattle.zk_step.specs.StoryWords.{AreWordsOf};
-ghost use Rattle.zk_step.specs.TextBuffers.{taken_letters, ended_by_zero, early_line_put, counted_letters, later_line_put, divided, own_dictionary, line_put, is_filled, later_kept, kept_of};
+ghost use Rattle.zk_step.specs.TextBuffers.{taken_letters, ended_by_zero, early_line_put, counted_letters};
+ghost use Rattle.zk_step.specs.TextBuffers.{later_line_put, divided, own_dictionary, line_put, is_filled, later_kept};
+ghost use Rattle.zk_step.specs.TextBuffers.{kept_of};
 
 use crate::input::story_words::StoryWords;
 use arrayvec::ArrayVec;
@@ -92,7 +94,7 @@ pub fn divide(
 }
 
 /// Stores a line in a text buffer and its words in a parse buffer.
-#[tactic(auto, unfolding(crate::specs::TextBuffers::line_put), using(crate::proofs::SameStory::words_after_early, crate::proofs::SameStory::words_after_later))]
+#[tactic(auto, unfolding(crate::specs::TextBuffers::line_put), using(crate::proofs::SameStory::of_put_line))]
 pub fn put_line(
     memory: &mut Memory,
     words: &StoryWords,

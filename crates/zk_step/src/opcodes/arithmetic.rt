@@ -2,7 +2,8 @@
 
 ghost use Rattle.std.specs.Prelude.{◌≡◌, ◌≤◌};
 ghost use Rattle.std.specs.Int.{int_wrapping_div, w16};
-ghost use Rattle.zk_step.specs.Arithmetic.{arithmetic, divided, signed, shifted_left, shifted_right, sign_shifted, shifted};
+ghost use Rattle.zk_step.specs.Arithmetic.{arithmetic, divided, signed, shifted_left, shifted_right, sign_shifted};
+ghost use Rattle.zk_step.specs.Arithmetic.{shifted};
 ghost use Rattle.std.specs.Prelude.{int_rem};
 
 use zk_code::opcode::Arithmetic;

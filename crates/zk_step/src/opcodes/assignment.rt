@@ -81,7 +81,7 @@ pub fn assign(
 }
 
 /// Pushes a word on the evaluation stack.
-#[tactic(auto, unfolding(zk_state::specs::Frames::pushed), using(zk_state::proofs::BoundsKept::pushed_bounds, crate::proofs::Pushes::pushed_ok, crate::proofs::Pushes::pushed_refused))]
+#[tactic(auto, unfolding(crate::proofs::Opened::in_push_effect), using(crate::proofs::Pushes::of_push_effect))]
 pub fn push_effect(game: &mut GameState, values: &Values) -> Result<Effect, Refusal>
     ensures ok { IfOk result (λ e. pushing game.old values.now ≡ Ok (game.new, e)) }
     ensures err { IfErr result (λ r. Refuses r (pushing game.old values.now)) }

@@ -3,7 +3,8 @@
 ghost use Rattle.zk_state.specs.Frames.{bounds_of};
 ghost use Rattle.std.specs.Prelude.{◌≡◌, IfOk, Ok, Err, MatchResult};
 ghost use Rattle.zk_step.specs.Printing.{IsLong, IsPrintable};
-ghost use Rattle.zk_step.specs.Screens.{selected_by, erased_by, erased_line, in_upper, or_first, windows_changed, cursor_stored, status_by, window_effect};
+ghost use Rattle.zk_step.specs.Screens.{selected_by, erased_by, erased_line, in_upper, or_first, windows_changed};
+ghost use Rattle.zk_step.specs.Screens.{cursor_stored, status_by, window_effect};
 ghost use Rattle.zk_term.specs.Windows.{cursor_set};
 
 use crate::output::status::status_line;

@@ -1,6 +1,7 @@
 // Parts of what an instruction prints: a long text, or many rows, can be shown one part after the other.
 
-ghost use Rattle.std.specs.Prelude.{◌≡◌, ◌≤◌, ◌<◌, ◌++◌, [], true, false, List, ℕ, None, Ok, Err, IsOk, IfOk, IfErr, OnErr, MatchResult};
+ghost use Rattle.std.specs.Prelude.{◌≡◌, ◌≤◌, ◌<◌, ◌++◌, [], true, false, List, ℕ, None, Ok, Err, IsOk, IfOk, IfErr};
+ghost use Rattle.std.specs.Prelude.{OnErr, MatchResult};
 ghost use Rattle.zk_state.specs.Frames.{bounds_of};
 ghost use Rattle.zk_text.specs.declared.unit.Unit.{Unit};
 ghost use Rattle.zk_text.specs.Extra.{own_characters};
@@ -8,7 +9,8 @@ ghost use Rattle.zk_text.specs.Shown.{shown_all};
 ghost use Rattle.zk_term.specs.Windows.{printed};
 ghost use Rattle.zk_text.specs.Places.{Gives, IsPlace, Refuses, left, rest_on as place_on};
 ghost use Rattle.zk_tables.specs.Rectangles.{rows_of, row_at};
-ghost use Rattle.zk_step.specs.Halves.{GivesSome, IsRest, line_end, rest_on, rest_rows, rest_units, row_line, row_rest, upper_rest, upper_rows, whole_of};
+ghost use Rattle.zk_step.specs.Halves.{GivesSome, IsRest, line_end, rest_on, rest_rows, rest_units, row_line, row_rest};
+ghost use Rattle.zk_step.specs.Halves.{upper_rest, upper_rows, whole_of};
 ghost use Rattle.zk_step.specs.Printed.{Collected, Printed};
 ghost use Rattle.zk_step.specs.Printing.{units_or_none};
 ghost use Rattle.zk_step.specs.Routing.{stored_all};
@@ -318,8 +320,10 @@ fn print_some_rows(
     requires within { row.old ≤ rectangle.height }
     requires from { 1 ≤ column }
     requires to { column ≤ 81 }
-    ensures value { upper_rows on (own_characters memory.now) column row.new (rest_rows memory.now rectangle row.new) windows.new
-        ≡ upper_rows on (own_characters memory.now) column row.old (rest_rows memory.now rectangle row.old) windows.old }
+    ensures value { upper_rows on (own_characters memory.now) column row.new (rest_rows memory.now rectangle row.new)
+        windows.new
+        ≡ upper_rows on (own_characters memory.now) column row.old (rest_rows memory.now rectangle row.old)
+        windows.old }
     ensures within { row.new ≤ rectangle.height }
     ensures off { result ≡ false → row.new ≡ rectangle.height }
     ensures whole { 65535 ≤ most → result ≡ false }

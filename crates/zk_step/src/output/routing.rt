@@ -1,17 +1,21 @@
 // What an instruction prints finds its way.
 
-ghost use Rattle.std.specs.Prelude.{◌≡◌, ◌<◌, List, [], ℕ, true, false, Some, None, Ok, Err, IsOk, IfOk, IfErr, OnErr, MatchResult};
+ghost use Rattle.std.specs.Prelude.{◌≡◌, ◌<◌, List, [], ℕ, true, false, Some, None, Ok, Err, IsOk, IfOk, IfErr, OnErr};
+ghost use Rattle.std.specs.Prelude.{MatchResult};
 ghost use Rattle.zk_state.specs.Frames.{bounds_of};
 ghost use Rattle.zk_text.specs.Extra.{own_characters};
 ghost use Rattle.zk_tables.specs.Rectangles.{rows_of, row_at, row_units};
 ghost use Rattle.zk_term.specs.Windows.{printed};
 ghost use Rattle.zk_text.specs.Shown.{shown_all};
-ghost use Rattle.zk_step.specs.Halves.{IsForScreen, IsForTable, IsForUpper, IsRest, IsUnderWay, ShowsSome, rest_on, rest_text, rest_text_by, rest_units, streamed_text, whole_of};
+ghost use Rattle.zk_step.specs.Halves.{IsForScreen, IsForTable, IsForUpper, IsRest, IsUnderWay, ShowsSome, rest_on};
+ghost use Rattle.zk_step.specs.Halves.{rest_text, rest_text_by, rest_units, streamed_text, whole_of};
 ghost use Rattle.zk_step.specs.Limited.{limited_next};
 ghost use Rattle.zk_step.specs.Printed.{Collected};
 ghost use Rattle.zk_step.specs.Printing.{characters_of, units_of, rows_or_none, IsPlainEnd, IsPrintable, IsReady};
 ghost use Rattle.zk_step.specs.Routes.{finished_after, IsRouted, IsRoutedBy};
-ghost use Rattle.zk_step.specs.Routing.{routed, routed_by, routed_to, no_text, streamed, stored_all, table_filled, upper_printed, rectangle_printed, printed_if, script_is_on, status_shown, text_routed, with_line_start};
+ghost use Rattle.zk_step.specs.Routing.{routed, routed_by, routed_to, no_text, streamed, stored_all, table_filled};
+ghost use Rattle.zk_step.specs.Routing.{upper_printed, rectangle_printed, printed_if, script_is_on, status_shown};
+ghost use Rattle.zk_step.specs.Routing.{text_routed, with_line_start};
 ghost use Rattle.zk_step.specs.Status.{status_units};
 ghost use Rattle.zk_step.specs.Streams.{newest_of};
 

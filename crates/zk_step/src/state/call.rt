@@ -51,7 +51,7 @@ fn locals_of(memory: &Memory, values: u32, count: u8, arguments: &[u16]) -> Arra
 
 /// Calls the routine at a packed address with arguments: the byte address of its first instruction. A routine outside
 /// the story, or with more than 15 local variables, is `BadTarget`.
-#[tactic(auto, unfolding(crate::specs::Routines::called, crate::specs::Routines::routine_at, zk_state::specs::Frames::called), using(zk_state::proofs::BoundsKept::called_bounds, crate::proofs::WithinBounds::kept_with, crate::proofs::WithinBounds::kept_refused))]
+#[tactic(auto, unfolding(crate::proofs::Opened::in_call_routine), using(crate::proofs::WithinBounds::of_call_routine))]
 pub fn call_routine(
     game: &mut GameState,
     i: &Instr,

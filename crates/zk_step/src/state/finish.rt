@@ -2,7 +2,8 @@
 
 ghost use Rattle.zk_state.specs.Frames.{bounds_of, within_bounds};
 ghost use Rattle.std.specs.Prelude.{◌≡◌, ◌≤◌, ◌^◌, Bool, Ok, Err, IfErr, IsOk, OnOk, MatchResult, true, length};
-ghost use Rattle.zk_step.specs.Finish.{continuation_of, continuation_after, led, gone, gone_on, finished, beside_stack, leads_away};
+ghost use Rattle.zk_step.specs.Finish.{continuation_of, continuation_after, led, gone, gone_on, finished, beside_stack};
+ghost use Rattle.zk_step.specs.Finish.{leads_away};
 ghost use Rattle.zk_step.specs.Limited.{limited_next, limited_pc, next_at};
 ghost use Rattle.zk_step.specs.Printing.{IsPlainEnd};
 ghost use Rattle.zk_step.specs.Routing.{with_line_start};
@@ -91,7 +92,7 @@ fn store_beside(game: &mut GameState, variable: Option<u8>, value: Option<u16>) 
 }
 
 /// Stores a result, and goes on to an address in the story, which it tells.
-#[tactic(auto, unfolding(crate::specs::Finish::gone, crate::specs::Finish::led), using(crate::proofs::Ways::to_refused, crate::proofs::Ways::to_kept))]
+#[tactic(auto, unfolding(crate::specs::Finish::gone, crate::specs::Finish::led), using(crate::proofs::Ways::of_go_to))]
 pub(crate) fn go_to(
     game: &mut GameState,
     variable: Option<u8>,

@@ -45,7 +45,7 @@ impl GameState {
     }
 
     /// Puts memory back and leaves the first frame alone (Z-Machine Standards Document 1.1, section 6.1.3).
-    #[tactic(auto, unfolding(crate::specs::Restarts::begun_again, crate::specs::Restarts::windows_closed, zk_state::specs::Frames::bounds_of))]
+    #[tactic(auto, unfolding(crate::proofs::Opened::in_restart))]
     pub(crate) fn restart(&mut self)
         ensures value { self.new ≡ begun_again self.old }
         ensures bounds { bounds_of self.new.frames ≡ bounds_of self.old.frames }

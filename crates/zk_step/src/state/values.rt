@@ -1,7 +1,8 @@
 // The values of operands.
 
 ghost use Rattle.zk_state.specs.Frames.{IsBounded, bounds_of, within_bounds};
-ghost use Rattle.std.specs.Prelude.{◌≡◌, ◌<◌, ◌≤◌, [], ◌∷◌, ◌++◌, ◌==◌, Ok, Err, drop, take, length, slice_get, slice_index, MatchResult};
+ghost use Rattle.std.specs.Prelude.{◌≡◌, ◌<◌, ◌≤◌, [], ◌∷◌, ◌++◌, ◌==◌, Ok, Err, drop, take, length, slice_get};
+ghost use Rattle.std.specs.Prelude.{slice_index, MatchResult};
 ghost use Rattle.zk_step.specs.Halves.{HaveTaken, given_back};
 ghost use Rattle.zk_step.specs.Values.{first, second, third, fourth, given_or};
 ghost use Rattle.zk_step.specs.Variables.{operand_read, operands_read};

@@ -3,7 +3,8 @@
 ghost use Rattle.zk_state.specs.Frames.{bounds_of};
 ghost use Rattle.std.specs.Prelude.{◌≡◌, ◌≤◌, Ok, Err, MatchResult};
 ghost use Rattle.zk_step.specs.Limited.{limited};
-ghost use Rattle.zk_step.specs.Variables.{global_address, named_read, named_written, variable_read, variable_written, indirect_read, indirect_written};
+ghost use Rattle.zk_step.specs.Variables.{global_address, named_read, named_written, variable_read, variable_written};
+ghost use Rattle.zk_step.specs.Variables.{indirect_read, indirect_written};
 
 use crate::state::game_state::GameState;
 use zk_mem::fault::Fault;
@@ -74,7 +75,7 @@ pub fn read_variable(game: &mut GameState, variable: u8) -> Result<u16, Fault>
 }
 
 /// Pushes a word on the evaluation stack.
-#[tactic(auto, unfolding(crate::specs::Variables::variable_written, zk_state::specs::Frames::pushed), using(zk_state::proofs::BoundsKept::pushed_bounds, crate::proofs::WithinBounds::kept_within, crate::proofs::WithinBounds::kept_refused))]
+#[tactic(auto, unfolding(crate::proofs::Opened::in_push), using(crate::proofs::WithinBounds::of_push))]
 pub(crate) fn push(game: &mut GameState, value: u16) -> Result<(), Refusal>
     ensures value { MatchResult result
         (λ _. limited (variable_written game.old 0 value) ≡ Ok game.new)

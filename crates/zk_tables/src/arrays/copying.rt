@@ -1,9 +1,11 @@
 // Tables are copied and cleared.
 
-ghost use Rattle.std.specs.Prelude.{◌≡◌, ◌≤◌, ◌<◌, ◌+◌, ◌%◌, ◌-◌, ◌⊎◌, ℕ, List, Ok, Err, IsOk, OnOk, IfErr, MatchResult, length, min, true};
+ghost use Rattle.std.specs.Prelude.{◌≡◌, ◌≤◌, ◌<◌, ◌+◌, ◌%◌, ◌-◌, ◌⊎◌, ℕ, List, Ok, Err, IsOk, OnOk, IfErr};
+ghost use Rattle.std.specs.Prelude.{MatchResult, length, min, true};
 ghost use Rattle.zk_mem.specs.Map.{readable_end};
 ghost use Rattle.zk_tables.specs.Runs.{places, bytes_stored};
-ghost use Rattle.zk_tables.specs.Copying.{byte_copied, copied_at_once, copied_forwards, cleared, magnitude, table_copied};
+ghost use Rattle.zk_tables.specs.Copying.{byte_copied, copied_at_once, copied_forwards, cleared, magnitude};
+ghost use Rattle.zk_tables.specs.Copying.{table_copied};
 
 use crate::arrays::runs::{check_bytes, place};
 use zk_mem::fault::Fault;

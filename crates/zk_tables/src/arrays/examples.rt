@@ -1,6 +1,13 @@
 // Worked examples of the definitions, which refuse one that is turned together with its body.
 
-ghost use Rattle.zk_tables.specs.ArrayExamples.{RunsArePut, RunsEndAtTheStaticBase, PlacesGoOnAtZero, CopiesUpwards, CopiesDownwards, CopiesFromZero, CopiesForwards, TablesAreCleared, NothingIsCopied, SizesHaveNoSign, CopiesReadFirst, BytesInTheirOrder, WordsAreFound, BytesAreFound, TheFirstIsFound, ValuesAreWhole, EntriesOfNoLength, ScansEndAtTheMatch, ScansGoOnAtZero, RowsAreRead, RowsAreJoined, EmptyRectangles, RowsEndWithData, RowsGoOnAtZero};
+ghost use Rattle.zk_tables.specs.guards.ArrayExamples.{RunsArePut, RunsEndAtTheStaticBase, PlacesGoOnAtZero};
+ghost use Rattle.zk_tables.specs.guards.ArrayExamples.{CopiesUpwards, CopiesDownwards, CopiesFromZero, CopiesForwards};
+ghost use Rattle.zk_tables.specs.guards.ArrayExamples.{TablesAreCleared, NothingIsCopied, SizesHaveNoSign};
+ghost use Rattle.zk_tables.specs.guards.ArrayExamples.{CopiesReadFirst, BytesInTheirOrder, WordsAreFound};
+ghost use Rattle.zk_tables.specs.guards.ArrayExamples.{BytesAreFound, TheFirstIsFound, ValuesAreWhole};
+ghost use Rattle.zk_tables.specs.guards.ArrayExamples.{EntriesOfNoLength, ScansEndAtTheMatch, ScansGoOnAtZero};
+ghost use Rattle.zk_tables.specs.guards.ArrayExamples.{RowsAreRead, RowsAreJoined, EmptyRectangles, RowsEndWithData};
+ghost use Rattle.zk_tables.specs.guards.ArrayExamples.{RowsGoOnAtZero};
 
 /// Runs of bytes (Standard, section 1.1).
 #[tactic(auto, unfolding(crate::specs::Runs::bytes_put, crate::specs::Runs::places, zk_mem::specs::Map::byte_put))]
@@ -11,7 +18,7 @@ pub fn runs_by_example()
 {}
 
 /// Tables are copied and cleared (Standard, section 15, `copy_table`).
-#[tactic(auto, unfolding(crate::specs::Copying::table_copied, crate::specs::Copying::copied_forwards, crate::specs::Runs::places, crate::specs::Runs::bytes_read, crate::specs::Runs::bytes_stored, zk_mem::specs::Map::byte_at, zk_mem::specs::Map::byte_put))]
+#[tactic(auto, unfolding(crate::proofs::Opened::examples))]
 pub fn copying_by_example()
     ensures copies_upwards { CopiesUpwards }
     ensures copies_downwards { CopiesDownwards }
@@ -37,7 +44,7 @@ pub fn scanning_by_example()
 {}
 
 /// Rectangles of codes (Standard, section 15, `print_table`).
-#[tactic(auto, unfolding(crate::specs::Rectangles::row_at, crate::specs::Rectangles::rows_from, crate::specs::Rectangles::rows_of, crate::specs::Rectangles::more_rows, crate::specs::Rectangles::joined_rows, crate::specs::Runs::places, crate::specs::Runs::bytes_read, zk_mem::specs::Map::byte_at))]
+#[tactic(auto, unfolding(crate::proofs::Opened::examples))]
 pub fn rectangles_by_example()
     ensures rows_are_read { RowsAreRead }
     ensures rows_are_joined { RowsAreJoined }

@@ -1,6 +1,7 @@
 // Rectangles of ZSCII codes in memory.
 
-ghost use Rattle.std.specs.Prelude.{◌≡◌, ◌+◌, ◌*◌, ◌%◌, ◌<◌, ◌++◌, ◌∷◌, ℕ, List, Ok, Err, IsOk, OnOk, OnErr, MatchResult};
+ghost use Rattle.std.specs.Prelude.{◌≡◌, ◌+◌, ◌*◌, ◌%◌, ◌<◌, ◌++◌, ◌∷◌, ℕ, List, Ok, Err, IsOk, OnOk, OnErr};
+ghost use Rattle.std.specs.Prelude.{MatchResult};
 ghost use Rattle.zk_text.specs.declared.unit.Unit.{Unit};
 ghost use Rattle.zk_tables.specs.Runs.{places, bytes_read};
 ghost use Rattle.zk_tables.specs.Rectangles.{row_at, rows_of, row_units, joined_rows};
@@ -81,7 +82,7 @@ fn give_bytes<S: Sink>(
 
 /// Gives a sink the codes of a row of a rectangle that can be read (see `check_rectangle`). Where the sink refuses, it
 /// was given a first part of them, and takes no more of what begins with the row.
-#[tactic(auto, unfolding(crate::specs::Rectangles::row_at), using(crate::proofs::Rows::row_places, crate::proofs::Rows::row_readable))]
+#[tactic(auto, unfolding(crate::specs::Rectangles::row_at), using(crate::proofs::Rows::of_give_row))]
 pub fn give_row<S: Sink>(
     memory: &Memory,
     rectangle: Rectangle,

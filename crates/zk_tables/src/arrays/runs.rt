@@ -29,7 +29,7 @@ pub(crate) fn place(table: u16, index: u16) -> u32
 
 /// Whether so many bytes of a table can be read; else it is `BadAddress`. No byte is looked at: they lie one after the
 /// other, and where data ends at 65,536 all addresses can be read.
-#[tactic(auto, using(crate::proofs::Places::read_nothing, crate::proofs::Places::read_anywhere, crate::proofs::Places::read_inside, crate::proofs::Places::read_past))]
+#[tactic(auto, using(crate::proofs::Places::of_check_bytes))]
 pub(crate) fn check_bytes(memory: &Memory, table: u16, length: u16) -> Result<(), Fault>
     ensures { MatchResult result (λ _. IsOk (bytes_read memory.now (places table length)))
         (λ e. bytes_read memory.now (places table length) ≡ Err e) }

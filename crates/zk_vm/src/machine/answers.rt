@@ -1,6 +1,7 @@
 // The answers to what a machine waits for, and the saved game that it has.
 
-ghost use Rattle.std.specs.Prelude.{◌≡◌, ◌≤◌, ◌+◌, ◌*◌, ◌⊎◌, true, false, [], ◌∷◌, length, option_copied, Some, None, Ok, Err, IfOk, MatchResult};
+ghost use Rattle.std.specs.Prelude.{◌≡◌, ◌≤◌, ◌+◌, ◌*◌, ◌⊎◌, true, false, [], ◌∷◌, length, option_copied, Some, None};
+ghost use Rattle.std.specs.Prelude.{Ok, Err, IfOk, MatchResult};
 ghost use Rattle.std.specs.List.{AllByRecursion};
 ghost use Rattle.zk_text.specs.Extra.{is_input_code};
 ghost use Rattle.zk_state.specs.Frames.{bounds_of};
@@ -151,8 +152,9 @@ impl Machine {
         }
     }
 
-    /// Goes back to the newest state that is kept, as `restore_undo` would, in place of the line or the character that is
-    /// waited for; says whether there is one. A fault or a limit comes from the next `run`. Without a state nothing changes.
+    /// Goes back to the newest state that is kept, as `restore_undo` would, in place of the line or the character that
+    /// is waited for; says whether there is one. A fault or a limit comes from the next `run`. Without a state nothing
+    /// changes.
     pub fn go_back(&mut self) -> bool
         requires waits { AsksForLine self.old }
         ensures undone { IsUndone self.old self.new result (undone self.old.state) }
@@ -174,8 +176,8 @@ impl Machine {
         }
     }
 
-    /// Why a saved game that `answer_restore` is given counts as none, if it does. One with too many frames or words does not:
-    /// it is a limit.
+    /// Why a saved game that `answer_restore` is given counts as none, if it does. One with too many frames or words
+    /// does not: it is a limit.
     pub fn refusal(&self, file: &[u8]) -> Option<RestoreError>
         ensures { result ≡ refused_in
             (restored file.now self.now.state.game.memory self.now.state.game.frames) }

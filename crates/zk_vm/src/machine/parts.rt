@@ -1,4 +1,5 @@
-// The parts of a machine that waits for a line or a character: for whoever keeps them, and makes a machine of them later.
+// The parts of a machine that waits for a line or a character: for whoever keeps them, and makes a machine of them
+// later.
 
 ghost use Rattle.std.specs.Prelude.{◌≡◌, ◌≤◌, ◌<◌, ◌^◌, true, [], None, Ok, IfOk, IfSome, OnSome};
 ghost use Rattle.zk_code.specs.Reading.{instr_at};
@@ -79,8 +80,8 @@ impl Machine {
     }
 
     /// The bounds of the frames are those of the limits. A machine that waits has no stop, nothing is due to its
-    /// transcript, no text is still to come, and its memory tells the story of as many states to go back to as the limits
-    /// say.
+    /// transcript, no text is still to come, and its memory tells the story of as many states to go back to as the
+    /// limits say.
     pub fn is_whole(&self)
         ensures bounds { bounds_of self.now.state.game.frames
             ≡ (self.now.limits.frames, self.now.limits.words) }

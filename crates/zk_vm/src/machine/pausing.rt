@@ -1,6 +1,7 @@
 // A machine that pauses in the middle of an instruction's text.
 
-ghost use Rattle.std.specs.Prelude.{◌≡◌, ◌≤◌, ◌<◌, ◌+◌, ◌^◌, ◌⊎◌, true, false, [], ◌∷◌, ℕ, Some, None, Ok, Err, IfErr, IfOk, IfSome, MatchResult, OnOk, OnErr, OnSome};
+ghost use Rattle.std.specs.Prelude.{◌≡◌, ◌≤◌, ◌<◌, ◌+◌, ◌^◌, ◌⊎◌, true, false, [], ◌∷◌, ℕ, Some, None, Ok, Err, IfErr};
+ghost use Rattle.std.specs.Prelude.{IfOk, IfSome, MatchResult, OnOk, OnErr, OnSome};
 ghost use Rattle.std.specs.List.{AllByRecursion};
 ghost use Rattle.std.specs.Prelude.{length, option_copied};
 ghost use Rattle.zk_code.specs.Reading.{instr_at};
@@ -11,7 +12,8 @@ ghost use Rattle.zk_text.specs.Extra.{is_input_code};
 ghost use Rattle.zk_vm.specs.Answers.Answer.{Typed, GameKept, File};
 ghost use Rattle.zk_vm.specs.Halts.{CanAnswer, IsKeeping, IsLeftAs, IsLine, IsUndone, KeepsState, event_waited};
 ghost use Rattle.zk_vm.specs.Logged.{Ran};
-ghost use Rattle.zk_vm.specs.Pausing.{GoneBy, HasCome, IsCut, IsCutAt, IsMade, StandsHalf, WentOn, come_to, event_reached, prints_text, told_due};
+ghost use Rattle.zk_vm.specs.Pausing.{GoneBy, HasCome, IsCut, IsCutAt, IsMade, StandsHalf, WentOn, come_to};
+ghost use Rattle.zk_vm.specs.Pausing.{event_reached, prints_text, told_due};
 ghost use Rattle.zk_vm.specs.Plays.{AsksForLine};
 ghost use Rattle.zk_vm.specs.Sessions.{given, with_grid_forgotten, with_stop};
 ghost use Rattle.zk_vm.specs.Step.{is_read};
@@ -46,7 +48,8 @@ pub enum Reached {
     NoMemory,
 }
 
-/// How far a step has come: a part of its text was shown, it was made, or there is no memory for the state that it keeps.
+/// How far a step has come: a part of its text was shown, it was made, or there is no memory for the state that it
+/// keeps.
 #[derive(Clone, Copy, Drop)]
 enum Stepped {
     Part,
@@ -73,8 +76,8 @@ fn prints_text(i: &Instr) -> bool
 /// So many words of text are shown at once, and count as an instruction: some thousand Z-characters.
 const WORDS: u32 = 334;
 
-/// A machine that shows a long text, or many rows, in parts: a run may end in their middle, and the next one goes on from there.
-/// Contracts see of it the state before the instruction, and what is still to come of its text.
+/// A machine that shows a long text, or many rows, in parts: a run may end in their middle, and the next one goes on
+/// from there. Contracts see of it the state before the instruction, and what is still to come of its text.
 #[derive(Drop)]
 pub struct PausingMachine {
     machine: Machine,
@@ -108,8 +111,8 @@ impl Machine {
         let _ = &self.limits;
     }
 
-    /// Carries out an instruction that was fetched from the machine's program counter, and keeps no state, or a part of it: then
-    /// the machine stands as before.
+    /// Carries out an instruction that was fetched from the machine's program counter, and keeps no state, or a part of
+    /// it: then the machine stands as before.
     fn advance_part<S: Screen>(
         &mut self,
         i: Instr,
@@ -165,8 +168,8 @@ impl Machine {
         }
     }
 
-    /// Carries out the instruction at the machine's program counter, or a part of it: then the machine stands as before, and so it
-    /// does where there is no memory for a state.
+    /// Carries out the instruction at the machine's program counter, or a part of it: then the machine stands as
+    /// before, and so it does where there is no memory for a state.
     fn step_part<S: Screen>(
         &mut self,
         half: &mut Option<Half>,
@@ -269,8 +272,8 @@ impl PausingMachine {
         &self.machine
     }
 
-    /// Makes the steps that show nothing and go on in the story, as many as there may be up to a bound, unless there is a text to
-    /// show.
+    /// Makes the steps that show nothing and go on in the story, as many as there may be up to a bound, unless there is
+    /// a text to show.
     fn go_ahead<S: Screen>(&mut self, screen: &S, bound: u32) -> Result<(), Halt>
         requires free { self.old.waiting ≡ None }
         requires runs { self.old.stopped ≡ None }
@@ -301,8 +304,8 @@ impl PausingMachine {
         Ok(())
     }
 
-    /// One step, or a part of one. Says how many parts were shown; none where there is no memory for a state: then the machine
-    /// stands as before.
+    /// One step, or a part of one. Says how many parts were shown; none where there is no memory for a state: then the
+    /// machine stands as before.
     fn step<S: Screen>(&mut self, screen: &mut S) -> Result<Option<u32>, Halt>
         requires room { self.old.state.steps < self.old.limits.steps }
         requires free { self.old.waiting ≡ None }
@@ -342,17 +345,17 @@ impl PausingMachine {
         }
     }
 
-    /// Steps up to an event or a stop, `Write` after the step or part of one at which the screen fails; or up to a pause, once so
-    /// many steps and parts were made, and after the one at which the screen comes to ask for it, or before one that keeps a state
-    /// for which there is no memory. Says whether there is memory.
+    /// Steps up to an event or a stop, `Write` after the step or part of one at which the screen fails; or up to a
+    /// pause, once so many steps and parts were made, and after the one at which the screen comes to ask for it, or
+    /// before one that keeps a state for which there is no memory. Says whether there is memory.
     fn steps_in_parts<S: Screen>(&mut self, screen: &mut S, most: u32) -> Result<bool, Halt>
         requires free { self.old.waiting ≡ None }
         requires runs { self.old.stopped ≡ None }
         requires silent { self.old.state.due ≡ [] }
         requires works { S.failed screen.old ≡ false }
         requires room { S.full screen.old ≡ false }
-        ensures logged { HasCome S.shows S.full S.failed screen.old screen.new (self.old.state.steps + most) self.old self.new
-            result }
+        ensures logged { HasCome S.shows S.full S.failed screen.old screen.new (self.old.state.steps + most)
+            self.old self.new result }
         ensures reads { self.new.state.reads ≡ self.old.state.reads }
         ensures more { self.old.state.steps ≤ self.new.state.steps }
         ensures limits { self.new.limits ≡ self.old.limits }
@@ -396,17 +399,17 @@ impl PausingMachine {
         }
     }
 
-    /// Runs the story up to the next event, a read or a saved game, or its stop, and answers the same stop from then on until
-    /// `close` sets another; or up to a pause, where it answers none, and goes on from there when it is run again. It pauses once
-    /// so many instructions were carried out, of which a long text counts one for each part that was shown of it, and after one
-    /// at which the screen comes to ask for it. It pauses too before a `save_undo` for whose state there is no memory. Nothing of
-    /// an instruction that faults is shown. Where the screen fails, the stop is `Write`, right after what it showed. The machine is
-    /// not waiting, and the screen does not ask for a pause.
+    /// Runs the story up to the next event, a read or a saved game, or its stop, and answers the same stop from then on
+    /// until `close` sets another; or up to a pause, where it answers none, and goes on from there when it is run
+    /// again. It pauses once so many instructions were carried out, of which a long text counts one for each part that
+    /// was shown of it, and after one at which the screen comes to ask for it. It pauses too before a `save_undo` for
+    /// whose state there is no memory. Nothing of an instruction that faults is shown. Where the screen fails, the stop
+    /// is `Write`, right after what it showed. The machine is not waiting, and the screen does not ask for a pause.
     pub fn run_for<S: Screen>(&mut self, screen: &mut S, most: u32) -> Result<Reached, Stop>
         requires free { self.old.waiting ≡ None }
         requires room { S.full screen.old ≡ false }
-        ensures logged { HasCome S.shows S.full S.failed screen.old screen.new (self.old.state.steps + most) self.old self.new
-            (come_to result) }
+        ensures logged { HasCome S.shows S.full S.failed screen.old screen.new (self.old.state.steps + most)
+            self.old self.new (come_to result) }
         ensures stops { IfErr result (λ stop. self.new.stopped ≡ Some stop) }
         ensures free { OnErr result (self.new.waiting ≡ None) }
         ensures asks { IfOk result (λ reached. event_waited self.new.waiting ≡ event_reached reached) }

@@ -1,6 +1,7 @@
 // A machine's run: step after step, up to what is waited for or the stop.
 
-ghost use Rattle.std.specs.Prelude.{◌≡◌, ◌↔◌, ◌≤◌, ◌<◌, ◌+◌, ◌-◌, ◌^◌, ◌⊎◌, true, false, [], if◌then◌else◌, Some, None, Ok, Err, IfErr, IfOk, IfSome, IsTrue, OnOk, OnSome, OnErr, MatchResult};
+ghost use Rattle.std.specs.Prelude.{◌≡◌, ◌↔◌, ◌≤◌, ◌<◌, ◌+◌, ◌-◌, ◌^◌, ◌⊎◌, true, false, [], if◌then◌else◌, Some, None};
+ghost use Rattle.std.specs.Prelude.{Ok, Err, IfErr, IfOk, IfSome, IsTrue, OnOk, OnSome, OnErr, MatchResult};
 ghost use Rattle.zk_state.specs.Frames.{IsBounded};
 ghost use Rattle.zk_code.specs.Reading.{instr_at};
 ghost use Rattle.zk_step.specs.Routing.{no_text};
@@ -19,7 +20,7 @@ use zk_code::decode::decode;
 use zk_code::instr::Instr;
 use zk_code::opcode::{Opcode, Saving};
 use zk_fast::ahead::run_ahead;
-use zk_fast::places::{Places, Unnoted};
+use zk_fast::places::Places;
 use zk_state::refusal::Limit;
 use zk_step::input::inputs::answer_result;
 use zk_step::instruction::carry_out;
@@ -41,35 +42,11 @@ pub(crate) fn keeps_state(i: &Instr) -> bool
 
 impl Machine {
     /// Runs the story up to the next event, a read or a saved game, or its stop, and answers the same stop
-    /// from then on until `close` sets another. Nothing of an instruction that faults is shown. Where there is
-    /// no memory for a state that `save_undo` keeps, the stop is `Memory`, before that instruction. Where the screen fails, the
-    /// stop is `Write`, right after the step that showed something. It is not waiting, and the screen never asks for a pause.
-    pub fn run<S: Screen>(&mut self, screen: &mut S) -> Result<Event, Stop>
-        requires free { self.old.waiting ≡ None }
-        requires endless { (a : S) → S.full a ≡ false }
-        ensures logged { Ran S.shows S.full S.failed (λ l. Unit {0}) screen.old screen.new
-            self.old.limits.steps 0 self.old self.new (Err result) }
-        ensures stops { IfErr result (λ stop. self.new.stopped ≡ Some stop) }
-        ensures free { OnErr result (self.new.waiting ≡ None) }
-        ensures asks { IfOk result (λ event. event_waited self.new.waiting ≡ Some event) }
-        ensures reads { IfOk result
-            (λ event. is_read event ≡ true → self.new.state.reads < 16777216) }
-        ensures same_reads { OnOk result (self.new.state.reads ≡ self.old.state.reads) }
-        ensures steps { OnOk result ((self.old.state.steps ≤ self.new.state.steps)
-            × (self.new.state.steps < self.new.limits.steps)) }
-        ensures runs { OnOk result (self.new.stopped ≡ None) }
-        ensures limits { self.new.limits ≡ self.old.limits }
-        ensures frames { IsBounded self.new.state.game.frames }
-        ensures within { IsWithin self.new.limits self.new.state }
-    {
-        match self.run_noting(screen, &mut Unnoted) {
-            Ok(event) => Ok(event),
-            Err(stop) => Err(stop),
-        }
-    }
-
-    /// Runs the story as `run` does, and notes where the instructions stand that it carries out.
-    pub fn run_noting<S: Screen, P: Places>(
+    /// from then on until `close` sets another. Notes where the instructions stand that it carries out. Nothing of an
+    /// instruction that faults is shown. Where there is no memory for a state that `save_undo` keeps, the stop is
+    /// `Memory`, before that instruction. Where the screen fails, the stop is `Write`, right after the step that showed
+    /// something. It is not waiting, and the screen never asks for a pause.
+    pub fn run<S: Screen, P: Places>(
         &mut self,
         screen: &mut S,
         places: &mut P,
@@ -91,17 +68,16 @@ impl Machine {
         ensures frames { IsBounded self.new.state.game.frames }
         ensures within { IsWithin self.new.limits self.new.state }
     {
-        match self.run_for_noting(screen, places, u32::MAX) {
+        match self.run_up_to(screen, places, u32::MAX) {
             Ok(Some(event)) => Ok(event),
             Ok(None) => unreachable!(),
             Err(stop) => Err(stop),
         }
     }
 
-    /// Runs the story as `run` does, but pauses after so many instructions, and after a step at which the screen comes to ask
-    /// for it: then it answers none. Notes where the instructions stand that it carries out. It is not waiting, and the screen
-    /// does not ask for a pause.
-    fn run_for_noting<S: Screen, P: Places>(
+    /// Runs the story as `run` does, but pauses after so many instructions, and after a step at which the screen comes
+    /// to ask for it: then it answers none. It is not waiting, and the screen does not ask for a pause.
+    fn run_up_to<S: Screen, P: Places>(
         &mut self,
         screen: &mut S,
         places: &mut P,
@@ -158,8 +134,8 @@ impl Machine {
         }
     }
 
-    /// Steps up to an event or a stop, `Write` after the step at which the screen fails; or up to a pause, once so many steps
-    /// were made, and after the step at which the screen comes to ask for it. Where they stand is noted.
+    /// Steps up to an event or a stop, `Write` after the step at which the screen fails; or up to a pause, once so many
+    /// steps were made, and after the step at which the screen comes to ask for it. Where they stand is noted.
     fn steps_to_pause<S: Screen, P: Places>(
         &mut self,
         screen: &mut S,
@@ -214,8 +190,8 @@ impl Machine {
         }
     }
 
-    /// Makes the steps that show nothing and go on in the story, as many as there may be up to a bound, by instructions that
-    /// are kept.
+    /// Makes the steps that show nothing and go on in the story, as many as there may be up to a bound, by instructions
+    /// that are kept.
     pub(crate) fn go_ahead<P: Places>(&mut self, places: &mut P, bound: u32) -> Result<(), Halt>
         requires free { self.old.waiting ≡ None }
         requires runs { self.old.stopped ≡ None }
@@ -324,8 +300,8 @@ impl Machine {
         }
     }
 
-    /// Carries out an instruction that keeps a state, and was fetched from the machine's program counter. Where there is no
-    /// memory for a state, the machine stands as before.
+    /// Carries out an instruction that keeps a state, and was fetched from the machine's program counter. Where there
+    /// is no memory for a state, the machine stands as before.
     pub(crate) fn keep(&mut self, i: &Instr) -> Result<Result<(), Halt>, AllocError>
         requires room { self.old.state.steps < self.old.limits.steps }
         requires free { self.old.waiting ≡ None }
@@ -357,8 +333,8 @@ impl Machine {
         }
     }
 
-    /// Keeps the state in front of the others, and goes on with the answer of `save_undo`. Where there is no memory for it,
-    /// nothing is done.
+    /// Keeps the state in front of the others, and goes on with the answer of `save_undo`. Where there is no memory for
+    /// it, nothing is done.
     fn save_undo(&mut self, i: &Instr) -> Result<Result<(), Halt>, AllocError>
         requires room { self.old.state.steps < self.old.limits.steps }
         requires free { self.old.waiting ≡ None }

@@ -8,7 +8,8 @@ returns-then-starts_with-clause-value c =
     let k = c.loop-k.k in
     let rows = c.args.rows.now in
     let executable : is_executable (take (12 * k + 12 - 12 * k) (drop (12 * k) rows)) ≡ true = search rules in
-    starts_here rows _ c.number.result (sym c.loop-k.invariant ∙ found_here rows _ k _ c.loop-k-test.true (omega arith) executable) c.number.ensures.value
+    starts_here rows _ c.number.result (sym c.loop-k.invariant ∙ found_here rows _ k _ c.loop-k-test.true
+    (omega arith) executable) c.number.ensures.value
 
 pub loop-k-preserved : goal.loop-k-preserved
 loop-k-preserved c =

@@ -17,11 +17,13 @@ returns-in-Some-amount_from-clause-says c =
     let found = found_of c.args.play.now in
     let n = c.args.number in
     let text : first_value found n.name.now ≡ Some c.in-Some.argument.now = search rules in
-    amount_said (rows_of found) n.name.now n.least n.most (word_of n) c.in-Some.argument.now c.in-Some-amount_from.amount (sym (first_value-rows found n.name.now) ∙ text) c.in-Some-amount_from.ensures.says
+    amount_said (rows_of found) n.name.now n.least n.most (word_of n) c.in-Some.argument.now
+    c.in-Some-amount_from.amount (sym (first_value-rows found n.name.now) ∙ text) c.in-Some-amount_from.ensures.says
 
 pub returns-in-None-clause-says_none : goal.returns-in-None-clause-says_none
 returns-in-None-clause-says_none c =
     let found = found_of c.args.play.now in
     let n = c.args.number in
     let text : first_value found n.name.now ≡ Some c.in-Some.argument.now = search rules in
-    no_amount_said (rows_of found) n.name.now n.least n.most (word_of n) c.in-Some.argument.now (sym (first_value-rows found n.name.now) ∙ text) c.in-None.ensures.none
+    no_amount_said (rows_of found) n.name.now n.least n.most (word_of n) c.in-Some.argument.now
+    (sym (first_value-rows found n.name.now) ∙ text) c.in-None.ensures.none

@@ -6,10 +6,14 @@ use Rattle.zk_command.proofs.choice.command_of.Goals as goal
 
 pub loop-option-preserved : goal.loop-option-preserved
 loop-option-preserved c = record {
-  shape = rw (add-one c.loop-option.option-index) (c.in_ok-command.ensures.shape ∙ ap₂ with_rule c.loop-option.invariant.shape c.option_of.ensures.rule
+  shape =
+      rw (add-one c.loop-option.option-index) (c.in_ok-command.ensures.shape
+      ∙ ap₂ with_rule c.loop-option.invariant.shape c.option_of.ensures.rule
       ∙ sym (rules_more _ c.args.table.options.now c.loop-option.option-index _ c.loop-option-test.true));
   local = c.in_ok-command.ensures.local;
 }
 
 pub returns-clause-shape : goal.returns-clause-shape
-returns-clause-shape c = rw (take_all c.loop-option.option-index c.args.table.options.now c.loop-option-test.false) at c.loop-option.invariant.shape
+returns-clause-shape c =
+    rw (take_all c.loop-option.option-index c.args.table.options.now c.loop-option-test.false) at
+    c.loop-option.invariant.shape

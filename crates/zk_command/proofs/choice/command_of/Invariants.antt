@@ -7,6 +7,7 @@ use Rattle.zk_command.proofs.choice.command_of.Given as goal
 
 abbrev pub invariant-loop-option : goal.invariant-loop-option
 invariant-loop-option l = record {
-  shape : app_of l.command ≡ with_rules (new_app l.fn.table.name.now) (map option_rule (take l.option-index l.fn.table.options.now));
+  shape : app_of l.command ≡ with_rules (new_app l.fn.table.name.now)
+      (map option_rule (take l.option-index l.fn.table.options.now));
   local : (fields_of l.command).has_globals ≡ false;
 }

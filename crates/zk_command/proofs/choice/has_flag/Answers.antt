@@ -8,7 +8,8 @@ pub returns-in-Some : goal.returns-in-Some
 returns-in-Some c =
     let found = found_of c.args.matches.now in
     let text : first_value found c.args.name.now ≡ Some c.in-Some.argument.now = search rules in
-    flag_by (rows_of found) c.args.name.now c.in-Some.argument.now _ (sym (first_value-rows found c.args.name.now) ∙ text) c.eq.ensures
+    flag_by (rows_of found) c.args.name.now c.in-Some.argument.now _ (sym (first_value-rows found c.args.name.now)
+    ∙ text) c.eq.ensures
 
 pub returns-in-None : goal.returns-in-None
 returns-in-None c =

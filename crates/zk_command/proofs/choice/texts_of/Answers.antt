@@ -10,9 +10,11 @@ returns c =
     let found = found_of c.args.found.now in
     elim c.match-get_strs.branch [
       | in-Some+in_ok-extend_from_slice w ↦
-          let read : Some (map (λ s. s.now) w.in-Some.texts.now) ≡ option_map raw_values (matched_of found c.args.name.now) = search rules in
+          let read : Some (map (λ s. s.now) w.in-Some.texts.now) ≡ option_map raw_values
+          (matched_of found c.args.name.now) = search rules in
           ap (λ v. map (λ s. s.now) v.items) w.list-is
-          ∙ ap (λ l. map (λ s. s.now) l) (w.in_ok-extend_from_slice.ensures.items ∙ ap (λ l. l ++ w.in-Some.texts.now) c.new-list.ensures.items)
+          ∙ ap (λ l. map (λ s. s.now) l) (w.in_ok-extend_from_slice.ensures.items
+          ∙ ap (λ l. l ++ w.in-Some.texts.now) c.new-list.ensures.items)
           ∙ ap (λ (o : Option (List Text)). unwrap_or o []) (read ∙ raw_values-rows found c.args.name.now)
       | in_default w ↦
           let read : None ≡ option_map raw_values (matched_of found c.args.name.now) = search rules in

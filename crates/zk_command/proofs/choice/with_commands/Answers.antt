@@ -13,5 +13,7 @@ loop-table-preserved c = record {
 }
 
 pub returns : goal.returns
-returns c = λ a is. (rw (take_all c.loop-table.table-index c.args.tables.now c.loop-table-test.false) at c.loop-table.invariant.shape)
+returns c =
+    λ a is. (rw (take_all c.loop-table.table-index c.args.tables.now c.loop-table-test.false) at
+    c.loop-table.invariant.shape)
     ∙ ap (λ (b : App). with_tables b c.args.tables.now) is

@@ -5,4 +5,5 @@ use Rattle.zk_command.specs.Listing.{AreSections}
 use Rattle.zk_command.proofs.listing.list_sections.Given as goal
 
 abbrev pub invariant-loop-section : goal.invariant-loop-section
-invariant-loop-section g l = GaveSome (AreSections l.fn.sections l.fn.memory (take l.section-index all_sections)) g.F.FactWriter.wrote l.fn.facts l.facts
+invariant-loop-section g l = GaveSome (AreSections l.fn.sections l.fn.memory (take l.section-index all_sections))
+    g.F.FactWriter.wrote l.fn.facts l.facts

@@ -9,5 +9,6 @@ pub returns-in-Ok : goal.returns-in-Ok
 returns-in-Ok c = λ units e.
     let given = c.in-Ok.ensures.ok units e in
     let all = whole_name units 1000 _ given.2 in
-    let cut : Collects c.args.name.now c.print_text.new.sink.name.now (shown_all (own_characters c.args.memory.now) (take 1000 units)) [] = rw all (rw c.of-extra.ensures at given.3) in
+    let cut : Collects c.args.name.now c.print_text.new.sink.name.now
+    (shown_all (own_characters c.args.memory.now) (take 1000 units)) [] = rw all (rw c.of-extra.ensures at given.3) in
     search (rules, given.0, cut)

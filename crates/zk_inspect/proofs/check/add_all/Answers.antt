@@ -7,4 +7,5 @@ pub loop-number-init : goal.loop-number-init
 loop-number-init c = none
 
 pub loop-number-preserved : goal.loop-number-preserved
-loop-number-preserved c = one_more c.args.memory.now c.args.numbers.now c.loop-number.number-index _ _ _ _ (omega arith) c.loop-number.invariant c.in_ok-add.ensures
+loop-number-preserved c = one_more c.args.memory.now c.args.numbers.now c.loop-number.number-index _ _ _ _
+    (omega arith) c.loop-number.invariant c.in_ok-add.ensures

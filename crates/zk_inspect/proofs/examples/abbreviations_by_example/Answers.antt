@@ -1,4 +1,5 @@
 -- The digits of numbers are computed.
+use Rattle.std.specs.Prelude.{⊤}
 use Rattle.std.proofs.Common.{refl}
 use Rattle.std.specs.Fmt.{digits}
 use Rattle.std.specs.Char.{encode_utf8}
@@ -18,14 +19,22 @@ use Rattle.zk_inspect.specs.AbbreviationLines.{abbreviation_facts, abbreviation_
 use Rattle.zk_inspect.specs.Lines.{fact_line, lines_of}
 use Rattle.zk_inspect.proofs.examples.abbreviations_by_example.Goals as goal
 
+-- the definitions that are opened here
+unfoldable opened : ⊤
+unfolding digits encode_utf8 byte_at word_at cell_at code_word_at header_of unit_length words_in words_at
+    text_end_at alphabet_table letter_by standard_letters standard_characters unicode_table own_characters character
+    values abbreviation text_units pieces_past z_characters shown shown_all hex_digits address_digits word_digits
+    byte_digits quoted_bytes units_text abbreviation_line abbreviation_facts fact_line lines_of
+opened = tt
+
 pub returns-clause-abbreviations_are_lines : goal.returns-clause-abbreviations_are_lines
-unfolding digits encode_utf8 byte_at word_at cell_at code_word_at header_of unit_length words_in words_at text_end_at alphabet_table letter_by standard_letters standard_characters unicode_table own_characters character values abbreviation text_units pieces_past z_characters shown shown_all hex_digits address_digits word_digits byte_digits quoted_bytes units_text abbreviation_line abbreviation_facts fact_line lines_of
+unfolding opened
 returns-clause-abbreviations_are_lines c = (refl, refl, refl, refl)
 
 pub returns-clause-no_table_no_lines : goal.returns-clause-no_table_no_lines
-unfolding digits encode_utf8 byte_at word_at cell_at code_word_at header_of unit_length words_in words_at text_end_at alphabet_table letter_by standard_letters standard_characters unicode_table own_characters character values abbreviation text_units pieces_past z_characters shown shown_all hex_digits address_digits word_digits byte_digits quoted_bytes units_text abbreviation_line abbreviation_facts fact_line lines_of
+unfolding opened
 returns-clause-no_table_no_lines c = refl
 
 pub returns-clause-all_abbreviations_are_lines : goal.returns-clause-all_abbreviations_are_lines
-unfolding digits encode_utf8 byte_at word_at cell_at code_word_at header_of unit_length words_in words_at text_end_at alphabet_table letter_by standard_letters standard_characters unicode_table own_characters character values abbreviation text_units pieces_past z_characters shown shown_all hex_digits address_digits word_digits byte_digits quoted_bytes units_text abbreviation_line abbreviation_facts fact_line lines_of
+unfolding opened
 returns-clause-all_abbreviations_are_lines c = refl

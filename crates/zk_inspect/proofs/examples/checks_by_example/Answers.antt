@@ -1,4 +1,5 @@
 -- What stands at addresses is computed.
+use Rattle.std.specs.Prelude.{⊤}
 use Rattle.std.proofs.Common.{refl}
 use Rattle.zk_mem.specs.Map.{byte_at, word_at, cell_at, code_word_at}
 use Rattle.zk_mem.specs.Header.{header_of, unit_length}
@@ -10,17 +11,29 @@ use Rattle.zk_text.specs.Meaning.{values, abbreviation, text_units}
 use Rattle.zk_text.specs.Pieces.{pieces_past}
 use Rattle.zk_text.specs.Words.{z_characters}
 use Rattle.zk_text.specs.Shown.{shown, shown_all}
-use Rattle.zk_code.specs.Reading.{code_byte, code_word, types_at, with_types, with_type_bytes, extended_at, head_by, head_at, operand_at, operands_at, store_at, branch_by, branch_here, branch_at, text_at, instr_at}
+use Rattle.zk_code.specs.Reading.{code_byte, code_word, types_at, with_types, with_type_bytes, extended_at, head_by}
+use Rattle.zk_code.specs.Reading.{head_at, operand_at, operands_at, store_at, branch_by, branch_here, branch_at}
+use Rattle.zk_code.specs.Reading.{text_at, instr_at}
 use Rattle.zk_code.specs.Table.{two_operand, one_operand, zero_operand, variable_operand, extended, name_of}
 use Rattle.zk_code.specs.Targets.{offset_target, branch_target, jump_target}
 use Rattle.zk_code.specs.Routines.{count_at}
 use Rattle.zk_code.specs.Reach.{constant_jump, jump_address, constant_call}
 use Rattle.zk_inspect.proofs.examples.checks_by_example.Goals as goal
 
+-- the definitions that are opened here
+unfoldable opened : ⊤
+unfolding byte_at word_at cell_at code_word_at header_of unit_length words_in words_at text_end_at alphabet_table
+    letter_by standard_letters standard_characters unicode_table own_characters character values abbreviation
+    text_units pieces_past z_characters shown shown_all code_byte code_word types_at with_types with_type_bytes
+    extended_at head_by head_at operand_at operands_at store_at branch_by branch_here branch_at text_at instr_at
+    two_operand one_operand zero_operand variable_operand extended name_of offset_target branch_target jump_target
+    count_at constant_jump jump_address constant_call
+opened = tt
+
 pub returns-clause-undecodable_addresses : goal.returns-clause-undecodable_addresses
-unfolding byte_at word_at cell_at code_word_at header_of unit_length words_in words_at text_end_at alphabet_table letter_by standard_letters standard_characters unicode_table own_characters character values abbreviation text_units pieces_past z_characters shown shown_all code_byte code_word types_at with_types with_type_bytes extended_at head_by head_at operand_at operands_at store_at branch_by branch_here branch_at text_at instr_at two_operand one_operand zero_operand variable_operand extended name_of offset_target branch_target jump_target count_at constant_jump jump_address constant_call
+unfolding opened
 returns-clause-undecodable_addresses c = (refl, refl, refl, refl, refl)
 
 pub returns-clause-leading_out : goal.returns-clause-leading_out
-unfolding byte_at word_at cell_at code_word_at header_of unit_length words_in words_at text_end_at alphabet_table letter_by standard_letters standard_characters unicode_table own_characters character values abbreviation text_units pieces_past z_characters shown shown_all code_byte code_word types_at with_types with_type_bytes extended_at head_by head_at operand_at operands_at store_at branch_by branch_here branch_at text_at instr_at two_operand one_operand zero_operand variable_operand extended name_of offset_target branch_target jump_target count_at constant_jump jump_address constant_call
+unfolding opened
 returns-clause-leading_out c = (refl, refl, refl, refl, refl, refl, refl, refl, refl)

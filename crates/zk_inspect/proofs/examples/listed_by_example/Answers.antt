@@ -6,7 +6,7 @@ use Rattle.zk_mem.specs.declared.fault.Fault.{Fault}
 use Rattle.zk_tables.specs.Layout.{layout_of, is_entry_in, is_entry, entry_of}
 use Rattle.zk_tables.specs.Links.{address_of, number_at, link_at}
 use Rattle.zk_tables.specs.Properties.{table_of}
-use Rattle.zk_inspect.specs.CheckExamples.{objects_with}
+use Rattle.zk_inspect.specs.guards.CheckExamples.{objects_with}
 use Rattle.zk_inspect.proofs.examples.listed_by_example.Goals as goal
 
 -- an address that was read

@@ -14,5 +14,7 @@ unfolding byte_at word_at header_of layout_of is_entry_in is_entry entry_of addr
 returns-clause-links_past_the_last c = (refl, refl, refl, refl, refl, refl)
 
 pub returns-clause-questions_on_objects : goal.returns-clause-questions_on_objects
-unfolding byte_at word_at header_of layout_of is_entry_in is_entry entry_of entries_in entries address_of number_at link_at chain_from children_of list_byte property_by property_at properties_from properties_at table_of list_of properties_of
+unfolding byte_at word_at header_of layout_of is_entry_in is_entry entry_of entries_in entries address_of
+    number_at link_at chain_from children_of list_byte property_by property_at properties_from properties_at
+    table_of list_of properties_of
 returns-clause-questions_on_objects c = (refl, refl, refl, refl, refl, refl, refl, refl)

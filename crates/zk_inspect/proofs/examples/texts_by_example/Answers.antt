@@ -2,7 +2,7 @@
 use Rattle.std.proofs.Common.{◌≡◌, ◌<◌, ◌+◌, ◌*◌, ℕ, refl, arith}
 use Rattle.zk_mem.specs.Header.{header_of, unit_length}
 use Rattle.zk_mem.specs.Map.{word_at}
-use Rattle.zk_inspect.specs.Examples.{abbreviating}
+use Rattle.zk_inspect.specs.guards.Examples.{abbreviating}
 use Rattle.zk_inspect.specs.Texts.{IsUnread, constant_text}
 use Rattle.zk_inspect.proofs.examples.texts_by_example.Goals as goal
 

@@ -1,4 +1,5 @@
 -- The digits of numbers are computed.
+use Rattle.std.specs.Prelude.{⊤}
 use Rattle.std.proofs.Common.{refl}
 use Rattle.std.specs.Fmt.{digits}
 use Rattle.std.specs.Char.{encode_utf8}
@@ -22,12 +23,21 @@ use Rattle.zk_inspect.specs.ObjectLines.{name_text, label_text}
 use Rattle.zk_inspect.specs.TreeLines.{indent, again_text, row_text, row_line}
 use Rattle.zk_inspect.proofs.examples.trees_by_example.Goals as goal
 
+-- the definitions that are opened here
+unfoldable opened : ⊤
+unfolding digits encode_utf8 byte_at word_at cell_at code_word_at header_of unit_length words_in words_at
+    text_end_at alphabet_table letter_by standard_letters standard_characters unicode_table own_characters character
+    values abbreviation text_units pieces_past z_characters shown shown_all hex_digits address_digits word_digits
+    byte_digits quoted_bytes units_text layout_of is_entry_in is_entry entry_of list_byte table_of name_of name_text
+    label_text indent again_text row_text row_line
+opened = tt
+
 pub returns-clause-rows_are_indented : goal.returns-clause-rows_are_indented
-unfolding digits encode_utf8 byte_at word_at cell_at code_word_at header_of unit_length words_in words_at text_end_at alphabet_table letter_by standard_letters standard_characters unicode_table own_characters character values abbreviation text_units pieces_past z_characters shown shown_all hex_digits address_digits word_digits byte_digits quoted_bytes units_text layout_of is_entry_in is_entry entry_of list_byte table_of name_of name_text label_text indent again_text row_text row_line
+unfolding opened
 returns-clause-rows_are_indented c = (refl, refl)
 
 pub returns-clause-rows_again : goal.returns-clause-rows_again
-unfolding digits encode_utf8 byte_at word_at cell_at code_word_at header_of unit_length words_in words_at text_end_at alphabet_table letter_by standard_letters standard_characters unicode_table own_characters character values abbreviation text_units pieces_past z_characters shown shown_all hex_digits address_digits word_digits byte_digits quoted_bytes units_text layout_of is_entry_in is_entry entry_of list_byte table_of name_of name_text label_text indent again_text row_text row_line
+unfolding opened
 returns-clause-rows_again c = (refl, refl)
 
 pub returns-clause-roots_name_no_parent : goal.returns-clause-roots_name_no_parent

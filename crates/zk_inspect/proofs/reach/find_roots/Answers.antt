@@ -21,7 +21,8 @@ loop-index-preserved c = record {
   search = c.in_ok-find.ensures.search;
   grows = grows_twice _ _ _ c.loop-index.invariant.grows c.in_ok-find.ensures.grows;
   found = λ k lt. elim (cases_eq k c.loop-index.index) [
-    | inl e ↦ subst (λ (j : ℕ). IsMarked c.find.new.self.marks (get_or c.args.roots.now j 0)) (sym e) c.in_ok-find.ensures.found
+    | inl e ↦ subst (λ (j : ℕ). IsMarked c.find.new.self.marks (get_or c.args.roots.now j 0)) (sym e)
+        c.in_ok-find.ensures.found
     | inr ne ↦ c.in_ok-find.ensures.grows.marks _ (c.loop-index.invariant.found k (omega arith))
   ];
 }
@@ -30,4 +31,5 @@ pub returns-clause-found : goal.returns-clause-found
 returns-clause-found c = λ a h.
     let lt : h.0 < length c.args.roots.now = h.1 in
     let end = c.loop-index-test.false in
-    subst (IsMarked c.loop-index.search.marks) (sym (get_or_default_zero c.args.roots.now h.0 a h.1) ∙ h.2) (c.loop-index.invariant.found h.0 (omega arith))
+    subst (IsMarked c.loop-index.search.marks) (sym (get_or_default_zero c.args.roots.now h.0 a h.1) ∙ h.2)
+    (c.loop-index.invariant.found h.0 (omega arith))

@@ -9,10 +9,15 @@ loop-address-init c = closing_begins (IsNextRoutine c.args.memory.now) c.args.ma
 
 pub loop-address-preserved : goal.loop-address-preserved
 loop-address-preserved c = elim c.if-has.branch [
-  | then-has w ↦ subst (IsClosing (IsNextRoutine c.args.memory.now) c.args.marks.now (c.loop-address.address + 1)) (sym w.marks-is)
-      (closing_marked (IsNextRoutine c.args.memory.now) c.args.marks.now c.loop-address.marks w.mark_next.new.marks c.loop-address.address (next_later c.args.memory.now) c.loop-address.invariant (sym c.has.ensures ∙ w.if-has.true) w.mark_next.ensures.size w.mark_next.ensures.exact)
-  | else-has w ↦ subst (IsClosing (IsNextRoutine c.args.memory.now) c.args.marks.now (c.loop-address.address + 1)) (sym w.marks-is)
-      (closing_on (IsNextRoutine c.args.memory.now) c.args.marks.now c.loop-address.marks c.loop-address.address c.loop-address.invariant (sym c.has.ensures ∙ w.if-has.false))
+  | then-has w ↦ subst (IsClosing (IsNextRoutine c.args.memory.now) c.args.marks.now (c.loop-address.address + 1))
+      (sym w.marks-is)
+      (closing_marked (IsNextRoutine c.args.memory.now) c.args.marks.now c.loop-address.marks
+      w.mark_next.new.marks c.loop-address.address (next_later c.args.memory.now) c.loop-address.invariant
+      (sym c.has.ensures ∙ w.if-has.true) w.mark_next.ensures.size w.mark_next.ensures.exact)
+  | else-has w ↦ subst (IsClosing (IsNextRoutine c.args.memory.now) c.args.marks.now (c.loop-address.address + 1))
+      (sym w.marks-is)
+      (closing_on (IsNextRoutine c.args.memory.now) c.args.marks.now c.loop-address.marks c.loop-address.address
+      c.loop-address.invariant (sym c.has.ensures ∙ w.if-has.false))
 ]
 
 pub returns-clause-exact : goal.returns-clause-exact
@@ -21,4 +26,5 @@ returns-clause-exact c =
     let e = c.requires.size in
     let t = c.loop-address-test.false in
     let l = c.len-address-end.ensures.value in
-    closing_ends (IsNextRoutine c.args.memory.now) c.args.marks.now c.loop-address.marks c.loop-address.address c.loop-address.invariant (omega arith)
+    closing_ends (IsNextRoutine c.args.memory.now) c.args.marks.now c.loop-address.marks c.loop-address.address
+    c.loop-address.invariant (omega arith)

@@ -5,4 +5,5 @@ use Rattle.zk_notes.proofs.cover.addresses_in.Given as goal
 
 abbrev pub invariant-loop-line : goal.invariant-loop-line
 invariant-loop-line l =
-    (l.addresses.items ≡ filter_map address_on (map (λ x. x.now) l.yielded)) × (list_any is_no_address (map (λ x. x.now) l.yielded) ≡ false)
+    (l.addresses.items ≡ filter_map address_on (map (λ x. x.now) l.yielded))
+    × (list_any is_no_address (map (λ x. x.now) l.yielded) ≡ false)

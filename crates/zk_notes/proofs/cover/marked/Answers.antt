@@ -10,5 +10,7 @@ returns c =
     let i = c.as_slice.ensures.value ∙ c.in_ok-instructions.ensures in
     let r = c.as_slice-2.ensures.value ∙ c.in_ok-routines.ensures in
     if_ok c.finish.result
-    (λ v h up. ap (λ x. x.items) h.1 ∙ collected_all _ _ _ _ _ c.new-out.ensures.short c.new-out.ensures.bytes (collected_then _ _ _ _ _ _ _ _ (rw (i, r) at (c.write_all.ensures up)) (rw (i, r) at (c.write_summary.ensures up))) h.0)
+    (λ v h up. ap (λ x. x.items) h.1 ∙ collected_all _ _ _ _ _ c.new-out.ensures.short c.new-out.ensures.bytes
+    (collected_then _ _ _ _ _ _ _ _ (rw (i, r) at (c.write_all.ensures up))
+    (rw (i, r) at (c.write_summary.ensures up))) h.0)
     c.finish.ensures

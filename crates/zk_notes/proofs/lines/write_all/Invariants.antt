@@ -5,4 +5,5 @@ use Rattle.zk_notes.proofs.lines.write_all.Given as goal
 
 abbrev pub invariant-loop-fact : goal.invariant-loop-fact
 invariant-loop-fact g l =
-    g.P.LineWriter.wrote l.fn.out l.out (flat_map (λ f. fact_line l.notes l.facts.memory.now f ++ codes "\n") (take l.fact-index l.facts.list.now))
+    g.P.LineWriter.wrote l.fn.out l.out (flat_map (λ f. fact_line l.notes l.facts.memory.now f ++ codes "\n")
+    (take l.fact-index l.facts.list.now))

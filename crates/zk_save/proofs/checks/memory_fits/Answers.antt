@@ -12,4 +12,5 @@ returns-then-eq c =
 pub returns : goal.returns
 returns c =
     let is : bytes_eq c.args.chunk.now.name.now (codes "UMem") ≡ false = search rules in
-    packed_fits c.args.memory.now c.args.chunk.now.name.now c.args.chunk.now.content.now _ c.unpacks.result is c.dynamic-size.ensures.len c.unpacks.ensures
+    packed_fits c.args.memory.now c.args.chunk.now.name.now c.args.chunk.now.content.now _ c.unpacks.result is
+    c.dynamic-size.ensures.len c.unpacks.ensures

@@ -1,5 +1,5 @@
-use Rattle.zk_save.proofs.SavedLoads.{chunks_again}
-use Rattle.zk_save.proofs.Spellings.{reads_all, reads_spelled}
+use Rattle.zk_save.proofs.guards.SavedLoads.{chunks_again}
+use Rattle.zk_save.proofs.guards.Spellings.{reads_all, reads_spelled}
 use Rattle.zk_save.proofs.laws.chunks_are_spelled.Goals as goal
 
 pub returns : goal.returns

@@ -11,6 +11,8 @@ loop-i-preserved c =
     let long : length xs ≡ length bytes = length-xored bytes file c.requires.inside.2 in
     let inside : c.loop-i.i < length xs = omega (arith, long) in
     record {
-      whole = pack_step xs c.loop-i.out.items c.put_byte.new.out.items c.loop-i.i c.loop-i.zeros c.in_ok-zeros.zeros _ inside (get_or-xored bytes file c.loop-i.i (omega arith) c.requires.inside.2) c.in_ok-zeros.ensures.value ∙ c.loop-i.invariant.whole;
+      whole = pack_step xs c.loop-i.out.items c.put_byte.new.out.items c.loop-i.i c.loop-i.zeros
+          c.in_ok-zeros.zeros _ inside (get_or-xored bytes file c.loop-i.i (omega arith) c.requires.inside.2)
+          c.in_ok-zeros.ensures.value ∙ c.loop-i.invariant.whole;
       few = omega (arith, c.in_ok-zeros.ensures.few, c.loop-i.invariant.few);
     }

@@ -1,4 +1,5 @@
-use Rattle.std.proofs.Common.{◌+◌, ◌∷◌, ◌≡◌, ◌≤◌, ◌∙◌, List, ℕ, arith, true, false, take, drop, get_or, length, length-set, sym, refl, ap}
+use Rattle.std.proofs.Common.{◌+◌, ◌∷◌, ◌≡◌, ◌≤◌, ◌∙◌, List, ℕ, arith, true, false, take, drop, get_or, length}
+use Rattle.std.proofs.Common.{length-set, sym, refl, ap}
 use Rattle.std.proofs.lemmas.List.{length-take}
 use Rattle.std.specs.Prelude.{bit_xor}
 use Rattle.zk_mem.specs.Map.{MemoryMap, with_byte}
@@ -19,7 +20,8 @@ loop-byte-init c =
       high = omega (arith, high, n.len);
       small = omega (arith, n.len, n.small);
       same = refl;
-      rest = λ ds h e. rest_start c.args.packed.now m.bytes ds (length c.dynamic-end.result.now) h (e ∙ sym n.len) (omega (arith, high, n.len));
+      rest = λ ds h e. rest_start c.args.packed.now m.bytes ds (length c.dynamic-end.result.now) h (e ∙ sym n.len)
+          (omega (arith, high, n.len));
     }
 
 pub loop-byte-preserved-then-run : goal.loop-byte-preserved-then-run
@@ -35,8 +37,10 @@ loop-byte-preserved-then-run c = record {
       let cs = c.args.packed.now in
       let end = length c.dynamic-end.result.now in
       let whole = xored c.args.memory.now.bytes ds in
-      let r : Rest true (get_or cs i 0 ∷ drop (i + 1) cs) l.at end l.memory.bytes whole = rest_next l.run true cs i l.at end l.memory.bytes whole c.if-run.true c.loop-byte-test.true (l.invariant.rest ds h e) in
-      rest_skip (get_or cs i 0) (drop (i + 1) cs) l.at (l.at + c.min-at.result) end l.memory.bytes whole (omega (arith, c.min-at.ensures)) l.invariant.high r;
+      let r : Rest true (get_or cs i 0 ∷ drop (i + 1) cs) l.at end l.memory.bytes whole = rest_next l.run true cs
+      i l.at end l.memory.bytes whole c.if-run.true c.loop-byte-test.true (l.invariant.rest ds h e) in
+      rest_skip (get_or cs i 0) (drop (i + 1) cs) l.at (l.at + c.min-at.result) end l.memory.bytes whole
+      (omega (arith, c.min-at.ensures)) l.invariant.high r;
 }
 
 pub loop-byte-preserved-then-byte-eq0 : goal.loop-byte-preserved-then-byte-eq0
@@ -52,7 +56,8 @@ loop-byte-preserved-then-byte-eq0 c = record {
       let cs = c.args.packed.now in
       let end = length c.dynamic-end.result.now in
       let whole = xored c.args.memory.now.bytes ds in
-      let r : Rest false (get_or cs i 0 ∷ drop (i + 1) cs) l.at end l.memory.bytes whole = rest_next l.run false cs i l.at end l.memory.bytes whole c.if-run.false c.loop-byte-test.true (l.invariant.rest ds h e) in
+      let r : Rest false (get_or cs i 0 ∷ drop (i + 1) cs) l.at end l.memory.bytes whole = rest_next l.run false
+      cs i l.at end l.memory.bytes whole c.if-run.false c.loop-byte-test.true (l.invariant.rest ds h e) in
       rest_run (get_or cs i 0) (drop (i + 1) cs) l.at end l.memory.bytes whole c.if-byte-eq0.true r;
 }
 
@@ -69,8 +74,10 @@ loop-byte-preserved-then-at-end c = record {
       let cs = c.args.packed.now in
       let end = length c.dynamic-end.result.now in
       let whole = xored c.args.memory.now.bytes ds in
-      let r : Rest false (get_or cs i 0 ∷ drop (i + 1) cs) l.at end l.memory.bytes whole = rest_next l.run false cs i l.at end l.memory.bytes whole c.if-run.false c.loop-byte-test.true (l.invariant.rest ds h e) in
-      absurd (rest_past (get_or cs i 0) (drop (i + 1) cs) l.at end l.memory.bytes whole c.if-byte-eq0.false c.if-at-end.true r);
+      let r : Rest false (get_or cs i 0 ∷ drop (i + 1) cs) l.at end l.memory.bytes whole = rest_next l.run false
+      cs i l.at end l.memory.bytes whole c.if-run.false c.loop-byte-test.true (l.invariant.rest ds h e) in
+      absurd (rest_past (get_or cs i 0) (drop (i + 1) cs) l.at end l.memory.bytes whole c.if-byte-eq0.false
+      c.if-at-end.true r);
 }
 
 pub loop-byte-preserved : goal.loop-byte-preserved
@@ -87,15 +94,19 @@ loop-byte-preserved c =
       base = ap (λ (n : MemoryMap). n.static_base) turned ∙ l.invariant.base;
       high = omega (arith, ap (λ (n : MemoryMap). length n.bytes) turned, length-set m.bytes l.at v, l.invariant.high);
       small = l.invariant.small;
-      same = turned ∙ ap (λ (n : MemoryMap). with_byte n l.at v) l.invariant.same ∙ sym (ap (λ (n : MemoryMap). with_bytes c.args.memory.now n.bytes) turned);
+      same = turned ∙ ap (λ (n : MemoryMap). with_byte n l.at v) l.invariant.same
+          ∙ sym (ap (λ (n : MemoryMap). with_bytes c.args.memory.now n.bytes) turned);
       rest = λ ds h e.
           let whole = xored c.args.memory.now.bytes ds in
-          let r : Rest false (get_or cs i 0 ∷ drop (i + 1) cs) l.at end m.bytes whole = rest_next l.run false cs i l.at end m.bytes whole c.if-run.false c.loop-byte-test.true (l.invariant.rest ds h e) in
-          rw (c.if-run.false, turned) (rest_byte (get_or cs i 0) (drop (i + 1) cs) l.at end m.bytes whole c.if-byte-eq0.false (omega (arith, c.if-at-end.false, l.invariant.high)) r);
+          let r : Rest false (get_or cs i 0 ∷ drop (i + 1) cs) l.at end m.bytes whole = rest_next l.run false cs i
+          l.at end m.bytes whole c.if-run.false c.loop-byte-test.true (l.invariant.rest ds h e) in
+          rw (c.if-run.false, turned) (rest_byte (get_or cs i 0) (drop (i + 1) cs) l.at end m.bytes whole
+          c.if-byte-eq0.false (omega (arith, c.if-at-end.false, l.invariant.high)) r);
     }
 
 pub returns-clause-turned : goal.returns-clause-turned
 returns-clause-turned c = λ ds h e.
     let l = c.loop-byte in
-    let bytes = rest_all l.run c.args.packed.now l.byte-index l.at (length c.dynamic-end.result.now) l.memory.bytes (xored c.args.memory.now.bytes ds) c.loop-byte-test.false (l.invariant.rest ds h e) in
+    let bytes = rest_all l.run c.args.packed.now l.byte-index l.at (length c.dynamic-end.result.now)
+    l.memory.bytes (xored c.args.memory.now.bytes ds) c.loop-byte-test.false (l.invariant.rest ds h e) in
     l.invariant.same ∙ ap (λ (b : List ℕ). with_bytes c.args.memory.now b) bytes

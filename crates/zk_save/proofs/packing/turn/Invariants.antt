@@ -12,5 +12,6 @@ invariant-loop-byte l = record {
   high : l.end ≤ length l.memory.bytes;
   small : l.end < 65536;
   same : l.memory ≡ with_bytes l.fn.memory l.memory.bytes;
-  rest : (ds : List ℕ) → unpacked (length ds) l.packed ≡ Some ds → length ds ≡ l.fn.memory.static_base → Rest l.run (drop l.byte-index l.packed) l.at l.end l.memory.bytes (xored l.fn.memory.bytes ds);
+  rest : (ds : List ℕ) → unpacked (length ds) l.packed ≡ Some ds → length ds ≡ l.fn.memory.static_base
+      → Rest l.run (drop l.byte-index l.packed) l.at l.end l.memory.bytes (xored l.fn.memory.bytes ds);
 }

@@ -9,19 +9,23 @@ pub returns-then-eq : goal.returns-then-eq
 returns-then-eq c = λ cs.
     let f = found_seen c.args.found in
     let is : bytes_eq c.args.chunk.name.now (codes "IFhd") ≡ true = search rules in
-    rw (c.or.ensures, copied_or c.args.found.story c.args.chunk.content) (story_noted f.story f.memory f.stack c.args.chunk.name.now c.args.chunk.content.now cs is)
+    rw (c.or.ensures, copied_or c.args.found.story c.args.chunk.content)
+    (story_noted f.story f.memory f.stack c.args.chunk.name.now c.args.chunk.content.now cs is)
 
 pub returns-then-is_memory : goal.returns-then-is_memory
 returns-then-is_memory c = λ cs.
     let f = found_seen c.args.found in
-    let is : (bytes_eq c.args.chunk.name.now (codes "CMem") || bytes_eq c.args.chunk.name.now (codes "UMem")) ≡ true = search rules in
-    rw (c.or-then-is_memory.ensures, cut_or c.args.found.memory c.args.chunk) (memory_noted f.story f.memory f.stack c.args.chunk.name.now c.args.chunk.content.now cs is)
+    let is : (bytes_eq c.args.chunk.name.now (codes "CMem") || bytes_eq c.args.chunk.name.now (codes "UMem"))
+    ≡ true = search rules in
+    rw (c.or-then-is_memory.ensures, cut_or c.args.found.memory c.args.chunk)
+    (memory_noted f.story f.memory f.stack c.args.chunk.name.now c.args.chunk.content.now cs is)
 
 pub returns-then-eq-2 : goal.returns-then-eq-2
 returns-then-eq-2 c = λ cs.
     let f = found_seen c.args.found in
     let is : bytes_eq c.args.chunk.name.now (codes "Stks") ≡ true = search rules in
-    rw (c.or-then-eq-2.ensures, copied_or c.args.found.stack c.args.chunk.content) (stack_noted f.story f.memory f.stack c.args.chunk.name.now c.args.chunk.content.now cs is)
+    rw (c.or-then-eq-2.ensures, copied_or c.args.found.stack c.args.chunk.content)
+    (stack_noted f.story f.memory f.stack c.args.chunk.name.now c.args.chunk.content.now cs is)
 
 pub returns : goal.returns
 returns c = λ cs.

@@ -17,4 +17,5 @@ returns-clause-story c =
 pub returns-clause-bounds : goal.returns-clause-bounds
 returns-clause-bounds c =
     let ok = c.in_ok-parts.ensures.ok in
-    put_bounds c.args.frames.now c.put_stack.new.frames (reverse ok.frames) (c.put_stack.ensures ok.frames ok.frames_are)
+    put_bounds c.args.frames.now c.put_stack.new.frames (reverse ok.frames)
+    (c.put_stack.ensures ok.frames ok.frames_are)

@@ -10,7 +10,8 @@ abbrev pub invariant-loop-rest : goal.invariant-loop-rest
 invariant-loop-rest l = record {
   room : FindRoom (frames_rest l.rest) l.frames;
   bounds : bounds_of l.frames ≡ bounds_of l.fn.frames;
-  left : (fs : List Frame) → frames_rest l.bytes ≡ Some fs → Left (frames_rest l.rest) l.frames (reverse fs ++ frames_of l.fn.frames);
+  left : (fs : List Frame) → frames_rest l.bytes ≡ Some fs → Left (frames_rest l.rest) l.frames
+      (reverse fs ++ frames_of l.fn.frames);
 }
 
 abbrev pub decreases-loop-rest : goal.decreases-loop-rest

@@ -9,9 +9,14 @@ loop-i-init c = record { front = refl; long = refl }
 
 pub loop-i-preserved : goal.loop-i-preserved
 loop-i-preserved c = record {
-  front = word_step c.loop-i.words c.args.bytes.now c.loop-i.i (omega (arith, c.loop-i-test.true, c.requires, c.loop-i.invariant.long)) (omega (arith, c.loop-i-test.true)) c.loop-i.invariant.front;
+  front =
+      word_step c.loop-i.words c.args.bytes.now c.loop-i.i
+      (omega (arith, c.loop-i-test.true, c.requires, c.loop-i.invariant.long)) (omega (arith, c.loop-i-test.true))
+      c.loop-i.invariant.front;
   long = length-set c.loop-i.words c.loop-i.i _ ∙ c.loop-i.invariant.long;
 }
 
 pub returns : goal.returns
-returns c = word_end c.loop-i.words c.args.bytes.now c.loop-i.i (omega (arith, c.loop-i-test.false, c.loop-i.auto.i-end)) c.loop-i.invariant.front
+returns c =
+    word_end c.loop-i.words c.args.bytes.now c.loop-i.i (omega (arith, c.loop-i-test.false, c.loop-i.auto.i-end))
+    c.loop-i.invariant.front

@@ -1,4 +1,4 @@
-use Rattle.zk_snapshot.proofs.Unique.{one_play}
+use Rattle.zk_snapshot.proofs.guards.Unique.{one_play}
 use Rattle.zk_snapshot.proofs.laws.one_play.Goals as goal
 
 pub returns : goal.returns

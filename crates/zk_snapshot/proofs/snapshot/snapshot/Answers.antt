@@ -10,13 +10,16 @@ use Rattle.zk_snapshot.proofs.snapshot.snapshot.Goals as goal
 pub fitting-count-requires : goal.fitting-count-requires
 fitting-count-requires c =
     let bounds = c.in_ok-frames.ensures ∙ ap (λ (g : GameState). bounds_of g.frames) c.game-game.ensures in
-    rw c.game-game.ensures (are_there c.args.machine.now c.undo.result.now c.in_ok-frames.frames c.requires c.undo.ensures.are_of bounds)
+    rw c.game-game.ensures (are_there c.args.machine.now c.undo.result.now c.in_ok-frames.frames c.requires
+    c.undo.ensures.are_of bounds)
 
 pub with_states-requires-clause-bounds : goal.with_states-requires-clause-bounds
-with_states-requires-clause-bounds c = c.fitting-count.ensures.bounds ∙ c.in_ok-frames.ensures ∙ ap (λ (g : GameState). bounds_of g.frames) c.game-game.ensures
+with_states-requires-clause-bounds c = c.fitting-count.ensures.bounds ∙ c.in_ok-frames.ensures
+    ∙ ap (λ (g : GameState). bounds_of g.frames) c.game-game.ensures
 
 pub with_states-requires-clause-count : goal.with_states-requires-clause-count
-with_states-requires-clause-count c = omega (arith, c.fitting-count.ensures.few, as_many c.args.machine.now c.undo.result.now c.undo.ensures.states)
+with_states-requires-clause-count c =
+    omega (arith, c.fitting-count.ensures.few, as_many c.args.machine.now c.undo.result.now c.undo.ensures.states)
 
 pub returns-clause-value : goal.returns-clause-value
 returns-clause-value c =
@@ -31,4 +34,6 @@ returns-clause-short c =
     let same = rw (← c.undo.ensures.states) at fit in
     let bounded = rw c.game-game.ensures at c.is_bounded.ensures in
     let few = rw c.game-game.ensures at c.tables.ensures.few in
-    short_if c.with_states.result (snapshot_of c.args.most s) (longest_of s.limits s.state.game.memory.static_base c.args.most) (rw same at c.with_states.ensures) (at_longest c.args.most s bounded few c.is_whole.ensures.bounds)
+    short_if c.with_states.result (snapshot_of c.args.most s)
+    (longest_of s.limits s.state.game.memory.static_base c.args.most) (rw same at c.with_states.ensures)
+    (at_longest c.args.most s bounded few c.is_whole.ensures.bounds)

@@ -10,8 +10,11 @@ returns-in-Err-clause-err c = operands_refused c.args.game.now c.args.i.now c.in
 
 pub returns-in-Ok-effect-clause-ready : goal.returns-in-Ok-effect-clause-ready
 returns-in-Ok-effect-clause-ready c =
-    let same = operands_memory c.args.i.now.operands c.args.game.now c.read_operands.new.game c.in-Ok.values c.in-Ok.ensures.value in
-    subst (λ (m : MemoryMap). IsPrintable m c.effect.new.game.memory c.in-Ok-effect.effect.output c.in-Ok-effect.effect.ending) same c.in-Ok-effect.ensures.ready
+    let same = operands_memory c.args.i.now.operands c.args.game.now c.read_operands.new.game c.in-Ok.values
+    c.in-Ok.ensures.value in
+    subst (λ (m : MemoryMap). IsPrintable m c.effect.new.game.memory c.in-Ok-effect.effect.output
+    c.in-Ok-effect.effect.ending) same c.in-Ok-effect.ensures.ready
 
 pub returns-in-Err-effect-clause-err : goal.returns-in-Err-effect-clause-err
-returns-in-Err-effect-clause-err c = effect_refused c.args.game.now c.args.i.now c.read_operands.new.game c.in-Ok.values c.in-Err-effect.refusal c.in-Ok.ensures.value c.in-Err-effect.ensures.err
+returns-in-Err-effect-clause-err c = effect_refused c.args.game.now c.args.i.now c.read_operands.new.game
+    c.in-Ok.values c.in-Err-effect.refusal c.in-Ok.ensures.value c.in-Err-effect.ensures.err

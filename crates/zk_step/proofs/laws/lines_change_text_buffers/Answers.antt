@@ -1,4 +1,4 @@
-use Rattle.zk_step.proofs.Buffers.{lines_change_text_buffers}
+use Rattle.zk_step.proofs.guards.Buffers.{lines_change_text_buffers}
 use Rattle.zk_step.proofs.laws.lines_change_text_buffers.Goals as goal
 
 pub returns : goal.returns

@@ -9,5 +9,10 @@ returns-then-end-bytes-clause-value c =
 
 pub returns-clause-value : goal.returns-clause-value
 returns-clause-value c =
-    let more : c.line_length-end.result < length c.args.bytes.now = omega (arith, c.line_length-end.ensures.within, c.if-end-bytes.false) in
-    rw c.without_return.ensures (next_line c.args.bytes.now c.line_length-end.result c.line_length-end.ensures.value more)
+    let more : c.line_length-end.result < length c.args.bytes.now = omega (
+      arith,
+      c.line_length-end.ensures.within,
+      c.if-end-bytes.false,
+    ) in
+    rw c.without_return.ensures (next_line c.args.bytes.now c.line_length-end.result
+    c.line_length-end.ensures.value more)

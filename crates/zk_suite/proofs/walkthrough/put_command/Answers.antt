@@ -8,11 +8,13 @@ pub returns-in_ok-push : goal.returns-in_ok-push
 returns-in_ok-push c =
     let out = c.args.out.now.items in
     let line = c.args.line.now in
-    let command : is_command line ≡ true = ap is_none (sym c.asked.ensures) ∙ mapped_none _ c.asked.result ∙ search rules in
+    let command : is_command line ≡ true = ap is_none (sym c.asked.ensures) ∙ mapped_none _ c.asked.result
+    ∙ search rules in
     let put : c.push.new.self.items ≡ (out ++ line) ++ 10 ∷ [] = search rules in
     put ∙ append_assoc out line (10 ∷ []) ∙ ap (λ (xs : List ℕ). out ++ xs) (sym (typed_one line command))
 
 pub returns-else-is_none : goal.returns-else-is_none
 returns-else-is_none c =
-    let other : is_command c.args.line.now ≡ false = ap is_none (sym c.asked.ensures) ∙ mapped_none _ c.asked.result ∙ search rules in
+    let other : is_command c.args.line.now ≡ false = ap is_none (sym c.asked.ensures)
+    ∙ mapped_none _ c.asked.result ∙ search rules in
     rw (typed_none c.args.line.now other) (sym (append-nil c.args.out.now.items))

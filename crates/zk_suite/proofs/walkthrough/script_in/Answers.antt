@@ -29,10 +29,12 @@ loop-cut-preserved c =
 
 pub returns-clause-value : goal.returns-clause-value
 returns-clause-value c =
-    let ends = comment_ends (lines c.loop-cut.rest.now) (at_end c.loop-cut.rest.now c.cut_line.result c.in_default.not-Some c.cut_line.ensures.value) in
+    let ends = comment_ends (lines c.loop-cut.rest.now)
+    (at_end c.loop-cut.rest.now c.cut_line.result c.in_default.not-Some c.cut_line.ensures.value) in
     sym ends.0 ∙ c.loop-cut.invariant.same
 
 pub returns-clause-count : goal.returns-clause-count
 returns-clause-count c =
-    let ends = comment_ends (lines c.loop-cut.rest.now) (at_end c.loop-cut.rest.now c.cut_line.result c.in_default.not-Some c.cut_line.ensures.value) in
+    let ends = comment_ends (lines c.loop-cut.rest.now)
+    (at_end c.loop-cut.rest.now c.cut_line.result c.in_default.not-Some c.cut_line.ensures.value) in
     omega (arith, ends.1, c.loop-cut.invariant.count)

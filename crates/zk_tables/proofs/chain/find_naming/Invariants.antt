@@ -5,6 +5,7 @@ use Rattle.zk_tables.proofs.chain.find_naming.Given as goal
 
 abbrev pub invariant-loop-i : goal.invariant-loop-i
 invariant-loop-i l = record {
-  rest : naming_from l.memory (l.most - l.i) l.named l.place l.fn.object ≡ naming_among l.memory l.fn.parent l.fn.object;
+  rest : naming_from l.memory (l.most - l.i) l.named l.place l.fn.object ≡ naming_among l.memory l.fn.parent
+      l.fn.object;
   counted : l.links ≡ l.fn.links + 1 + l.i;
 }

@@ -1,4 +1,4 @@
-use Rattle.zk_tables.proofs.RemovalLaw.{chains_decide}
+use Rattle.zk_tables.proofs.guards.RemovalLaw.{chains_decide}
 use Rattle.zk_tables.proofs.laws.chains_decide.Goals as goal
 
 pub returns : goal.returns

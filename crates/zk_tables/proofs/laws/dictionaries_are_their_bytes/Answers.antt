@@ -1,5 +1,5 @@
 use Rattle.zk_tables.proofs.Finding.{read_stands}
-use Rattle.zk_tables.proofs.Lasting.{dictionaries_are_their_bytes}
+use Rattle.zk_tables.proofs.guards.Lasting.{dictionaries_are_their_bytes}
 use Rattle.zk_tables.proofs.laws.dictionaries_are_their_bytes.Goals as goal
 
 pub returns-clause-read : goal.returns-clause-read

@@ -1,4 +1,4 @@
-use Rattle.zk_tables.proofs.PutInLaw.{insertions_put_first}
+use Rattle.zk_tables.proofs.guards.PutInLaw.{insertions_put_first}
 use Rattle.zk_tables.proofs.laws.insertions_put_first.Goals as goal
 
 pub returns : goal.returns

@@ -1,4 +1,4 @@
-use Rattle.zk_tables.proofs.OrderLaw.{keys_are_in_order}
+use Rattle.zk_tables.proofs.guards.OrderLaw.{keys_are_in_order}
 use Rattle.zk_tables.proofs.laws.keys_are_in_order.Goals as goal
 
 pub returns : goal.returns

@@ -1,4 +1,4 @@
-use Rattle.zk_tables.proofs.LinkLaw.{links_are_written}
+use Rattle.zk_tables.proofs.guards.LinkLaw.{links_are_written}
 use Rattle.zk_tables.proofs.laws.links_are_written.Goals as goal
 
 pub returns : goal.returns

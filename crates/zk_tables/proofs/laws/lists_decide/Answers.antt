@@ -1,4 +1,4 @@
-use Rattle.zk_tables.proofs.DecidedLaw.{lists_decide}
+use Rattle.zk_tables.proofs.guards.DecidedLaw.{lists_decide}
 use Rattle.zk_tables.proofs.laws.lists_decide.Goals as goal
 
 pub returns : goal.returns

@@ -1,4 +1,4 @@
-use Rattle.zk_tables.proofs.TakenLaw.{removals_take_out}
+use Rattle.zk_tables.proofs.guards.TakenLaw.{removals_take_out}
 use Rattle.zk_tables.proofs.laws.removals_take_out.Goals as goal
 
 pub returns : goal.returns

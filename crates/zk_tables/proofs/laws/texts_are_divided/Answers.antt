@@ -1,4 +1,4 @@
-use Rattle.zk_tables.proofs.TokenLaw.{tokens_are_words, tokens_are_determined}
+use Rattle.zk_tables.proofs.guards.TokenLaw.{tokens_are_words, tokens_are_determined}
 use Rattle.zk_tables.proofs.laws.texts_are_divided.Goals as goal
 
 pub returns-clause-words : goal.returns-clause-words

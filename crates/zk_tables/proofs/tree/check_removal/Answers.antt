@@ -12,18 +12,22 @@ returns-in_err-place-clause-value c =
 
 pub returns-in_default-clause-value : goal.returns-in_default-clause-value
 returns-in_default-clause-value c =
-    let none : naming_of c.args.memory.now c.args.object ≡ Ok None = rw c.in_default.is at (sym c.in_ok-place.ensures.value) in
+    let none : naming_of c.args.memory.now c.args.object ≡ Ok None = rw c.in_default.is at
+    (sym c.in_ok-place.ensures.value) in
     (none, is_ok_of _ c.args.memory.now (no_removal c.args.memory.now c.args.object none))
 
 pub returns-in_err-check_writes-clause-value : goal.returns-in_err-check_writes-clause-value
 returns-in_err-check_writes-clause-value c =
-    let p = err_from_is_err_and c.from_residual-in_err-check_writes.result c.from_residual-in_err-check_writes.ensures.1 in
-    let named : naming_of c.args.memory.now c.args.object ≡ Ok (Some c.in-Some.place) = rw c.in-Some.is at (sym c.in_ok-place.ensures.value) in
+    let p = err_from_is_err_and c.from_residual-in_err-check_writes.result
+    c.from_residual-in_err-check_writes.ensures.1 in
+    let named : naming_of c.args.memory.now c.args.object ≡ Ok (Some c.in-Some.place) = rw c.in-Some.is at
+    (sym c.in_ok-place.ensures.value) in
     let refused = rw (c.parent_link.ensures, c.sibling_link.ensures) at c.in_err-check_writes.ensures in
     rw (p.1, p.2) (removal_refused c.args.memory.now c.args.object c.in-Some.place _ named (sym refused))
 
 pub returns-clause-value : goal.returns-clause-value
 returns-clause-value c =
-    let named : naming_of c.args.memory.now c.args.object ≡ Ok (Some c.in-Some.place) = rw c.in-Some.is at (sym c.in_ok-place.ensures.value) in
+    let named : naming_of c.args.memory.now c.args.object ≡ Ok (Some c.in-Some.place) = rw c.in-Some.is at
+    (sym c.in_ok-place.ensures.value) in
     let allowed = rw (c.parent_link.ensures, c.sibling_link.ensures) at c.in_ok-check_writes.ensures in
     (named, removal_done c.args.memory.now c.args.object c.in-Some.place named (sym allowed))

@@ -1,4 +1,4 @@
-use Rattle.zk_term.proofs.WrappedLines.{characters_take_columns}
+use Rattle.zk_term.proofs.guards.WrappedLines.{characters_take_columns}
 use Rattle.zk_term.proofs.laws.characters_take_columns.Goals as goal
 
 pub returns : goal.returns

@@ -1,4 +1,4 @@
-use Rattle.zk_term.proofs.KeptCursors.{keeps_the_cursor}
+use Rattle.zk_term.proofs.guards.KeptCursors.{keeps_the_cursor}
 use Rattle.zk_term.proofs.laws.cursors_stay_near_the_grid.Goals as goal
 
 pub returns : goal.returns

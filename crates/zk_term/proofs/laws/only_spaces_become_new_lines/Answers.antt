@@ -1,4 +1,4 @@
-use Rattle.zk_term.proofs.WrappedLines.{only_spaces_become_new_lines}
+use Rattle.zk_term.proofs.guards.WrappedLines.{only_spaces_become_new_lines}
 use Rattle.zk_term.proofs.laws.only_spaces_become_new_lines.Goals as goal
 
 pub returns : goal.returns

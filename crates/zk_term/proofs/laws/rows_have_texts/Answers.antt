@@ -1,4 +1,4 @@
-use Rattle.zk_term.proofs.KeptCursors.{spaces_at_the_end_go, cleared_rows_have_no_text}
+use Rattle.zk_term.proofs.guards.KeptCursors.{spaces_at_the_end_go, cleared_rows_have_no_text}
 use Rattle.zk_term.proofs.laws.rows_have_texts.Goals as goal
 
 pub returns : goal.returns

@@ -8,7 +8,9 @@ use Rattle.zk_term.proofs.target.write_all.Goals as goal
 pub loop-sent-preserved : goal.loop-sent-preserved
 loop-sent-preserved g c = record {
   within = omega (arith, c.in-Ok.ensures.count, length-drop c.loop-sent.sent c.args.bytes.now);
-  so_far = rw (take-add c.loop-sent.sent c.in-Ok.n c.args.bytes.now) (Appends-trans _ _ _ _ _ c.loop-sent.invariant.so_far (rw (take_rest c.args.bytes.now c.loop-sent.sent) at c.in-Ok.ensures.bytes));
+  so_far = rw (take-add c.loop-sent.sent c.in-Ok.n c.args.bytes.now)
+      (Appends-trans _ _ _ _ _ c.loop-sent.invariant.so_far
+      (rw (take_rest c.args.bytes.now c.loop-sent.sent) at c.in-Ok.ensures.bytes));
   sound = c.in-Ok.ensures.failed ∙ c.loop-sent.invariant.sound;
 }
 

@@ -9,8 +9,12 @@ pub returns-clause-value : goal.returns-clause-value
 returns-clause-value c = λ k. elim (cases_lt k (length c.args.cells.now.items)) [
   | inl within ↦
       c.loop-k.invariant.value k
-      ∙ ap (λ (b : Bool). cond b 32 (get_or c.args.cells.now.items k 32)) (emptied_end c.args.from c.min-end.result c.args.to c.loop-k.k k c.len.result c.min-end.ensures c.loop-k-test.false (reached_end c.args.from c.min-end.result c.loop-k.k c.loop-k.auto.k-end c.loop-k.invariant.none) (omega (arith, c.len.ensures, c.args.cells.now.ok.0)))
+      ∙ ap (λ (b : Bool). cond b 32 (get_or c.args.cells.now.items k 32))
+      (emptied_end c.args.from c.min-end.result c.args.to c.loop-k.k k c.len.result c.min-end.ensures
+      c.loop-k-test.false (reached_end c.args.from c.min-end.result c.loop-k.k c.loop-k.auto.k-end
+      c.loop-k.invariant.none) (omega (arith, c.len.ensures, c.args.cells.now.ok.0)))
   | inr past ↦
       let e = get_or_past c.args.cells.now.items k 32 past in
-      c.loop-k.invariant.value k ∙ (either _ (get_or c.args.cells.now.items k 32) e ∙ sym (either _ (get_or c.args.cells.now.items k 32) e))
+      c.loop-k.invariant.value k ∙ (either _ (get_or c.args.cells.now.items k 32) e
+      ∙ sym (either _ (get_or c.args.cells.now.items k 32) e))
 ]

@@ -6,5 +6,6 @@ invariant-loop-k l = record {
   len : length l.cells.items ≡ length l.fn.cells.items;
   room : vec_capacity l.cells ≡ vec_capacity l.fn.cells;
   none : l.end ≤ l.from → l.k ≡ l.from;
-  value : (j : ℕ) → slice_index_or l.cells.items j 32 ≡ (if nat_le l.from j && nat_lt j l.k then 32 else slice_index_or l.fn.cells.items j 32);
+  value : (j : ℕ) → slice_index_or l.cells.items j 32 ≡ (if nat_le l.from j && nat_lt j l.k then 32
+      else slice_index_or l.fn.cells.items j 32);
 }

@@ -16,6 +16,7 @@ returns-clause-value c =
     let width : start + 80 - start ≡ 80 = omega arith in
     let row : take 80 (drop start items) ≡ map ((cells_of items).at c.args.row) (columns_from 1 80) =
     row_items items c.args.row start (omega (arith, c.requires.shown)) c.requires.row to c.place-start.ensures in
-    let slice : take (start + 80 - start) (drop start items) ≡ map ((cells_of items).at c.args.row) (columns_from 1 80) =
+    let slice : take (start + 80 - start) (drop start items) ≡ map ((cells_of items).at c.args.row)
+    (columns_from 1 80) =
     rw width row in
     c.without_last_spaces.ensures.value ∙ ap without_last_blanks slice

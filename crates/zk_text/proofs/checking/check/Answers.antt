@@ -10,20 +10,32 @@ loop-i-init g c = record {
 }
 
 pub returns-in_default : goal.returns-in_default
-returns-in_default g c = sym (c.loop-i.invariant.rest ∙ from_nowhere (g.A.Abbreviations.stands c.args.memory.now) c.args.memory.now c.loop-i.held c.loop-i.at (sym c.in_default.ensures.value))
+returns-in_default g c =
+    sym (c.loop-i.invariant.rest ∙ from_nowhere (g.A.Abbreviations.stands c.args.memory.now) c.args.memory.now
+    c.loop-i.held c.loop-i.at (sym c.in_default.ensures.value))
 
 pub returns-in-Err : goal.returns-in-Err
-returns-in-Err g c = c.refuse.ensures ∙ sym (c.loop-i.invariant.rest ∙ from_fault (g.A.Abbreviations.stands c.args.memory.now) c.args.memory.now c.loop-i.held c.loop-i.at c.in-Some.word c.in-Err.fault (sym c.in-Some.ensures.value) c.in-Err.ensures.err)
+returns-in-Err g c =
+    c.refuse.ensures ∙ sym (c.loop-i.invariant.rest ∙ from_fault (g.A.Abbreviations.stands c.args.memory.now)
+    c.args.memory.now c.loop-i.held c.loop-i.at c.in-Some.word c.in-Err.fault (sym c.in-Some.ensures.value)
+    c.in-Err.ensures.err)
 
 pub returns-then-word-ge32768 : goal.returns-then-word-ge32768
-returns-then-word-ge32768 g c = sym (c.loop-i.invariant.rest ∙ from_last (g.A.Abbreviations.stands c.args.memory.now) c.args.memory.now c.loop-i.held c.in-Ok.next c.loop-i.at c.in-Some.word (sym c.in-Some.ensures.value) c.if-word-ge32768.true c.in-Ok.ensures.ok)
+returns-then-word-ge32768 g c =
+    sym (c.loop-i.invariant.rest ∙ from_last (g.A.Abbreviations.stands c.args.memory.now) c.args.memory.now
+    c.loop-i.held c.in-Ok.next c.loop-i.at c.in-Some.word (sym c.in-Some.ensures.value) c.if-word-ge32768.true
+    c.in-Ok.ensures.ok)
 
 pub loop-i-preserved : goal.loop-i-preserved
 loop-i-preserved g c = record {
-  rest = c.loop-i.invariant.rest ∙ from_next (g.A.Abbreviations.stands c.args.memory.now) c.args.memory.now c.loop-i.held c.in-Ok.next c.loop-i.at c.in-Some.word (sym c.in-Some.ensures.value) c.if-word-ge32768.false c.in-Ok.ensures.ok;
+  rest = c.loop-i.invariant.rest ∙ from_next (g.A.Abbreviations.stands c.args.memory.now) c.args.memory.now
+      c.loop-i.held c.in-Ok.next c.loop-i.at c.in-Some.word (sym c.in-Some.ensures.value) c.if-word-ge32768.false
+      c.in-Ok.ensures.ok;
   place = omega arith;
   holds = c.in-Ok.ensures.holds;
 }
 
 pub returns : goal.returns
-returns g c = sym (c.loop-i.invariant.rest ∙ from_past (g.A.Abbreviations.stands c.args.memory.now) c.args.memory.now c.loop-i.held c.loop-i.at (omega (arith, c.len-i-end.ensures.value)))
+returns g c =
+    sym (c.loop-i.invariant.rest ∙ from_past (g.A.Abbreviations.stands c.args.memory.now) c.args.memory.now
+    c.loop-i.held c.loop-i.at (omega (arith, c.len-i-end.ensures.value)))

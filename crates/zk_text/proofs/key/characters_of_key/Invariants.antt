@@ -4,7 +4,8 @@ use Rattle.zk_text.proofs.key.characters_of_key.Given as goal
 
 abbrev pub invariant-loop-code : goal.invariant-loop-code
 invariant-loop-code l = record {
-  so_far : take l.most (l.characters.items ++ (spellings l.memory (drop l.code-index l.text) ++ fives l.most)) ≡ key_characters l.memory l.most l.text;
+  so_far : take l.most (l.characters.items ++ (spellings l.memory (drop l.code-index l.text) ++ fives l.most))
+      ≡ key_characters l.memory l.most l.text;
   room : length l.characters.items ≤ l.most;
 }
 

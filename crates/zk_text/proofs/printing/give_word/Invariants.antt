@@ -7,5 +7,7 @@ use Rattle.zk_text.proofs.printing.give_word.Given as goal
 
 abbrev pub invariant-loop-place : goal.invariant-loop-place
 invariant-loop-place g l = record {
-  gives : (expand : ℕ → Units) (ws : List ℕ) → Gives g.S.Sink.gave l.fn.sink l.sink (meaning l.fn.memory expand (held_back l.fn.held ++ drop l.fn.taken (z_characters (l.word ∷ ws)))) (meaning l.fn.memory expand (held_back l.held ++ drop l.place (z_characters (l.word ∷ ws))));
+  gives : (expand : ℕ → Units) (ws : List ℕ) → Gives g.S.Sink.gave l.fn.sink l.sink
+      (meaning l.fn.memory expand (held_back l.fn.held ++ drop l.fn.taken (z_characters (l.word ∷ ws))))
+      (meaning l.fn.memory expand (held_back l.held ++ drop l.place (z_characters (l.word ∷ ws))));
 }

@@ -6,7 +6,8 @@ use Rattle.zk_text.proofs.printing.print_part.Goals as goal
 pub loop-i-preserved : goal.loop-i-preserved
 loop-i-preserved g c =
     let next = rw c.in-Ok-true.field-0-test at c.in-Ok-true.ensures.ok in
-    let less : work_left c.args.memory.now _ < work_left c.args.memory.now c.loop-i.place = c.in-Ok-true.ensures.less c.in-Ok-true.field-0-test in
+    let less : work_left c.args.memory.now _ < work_left c.args.memory.now
+    c.loop-i.place = c.in-Ok-true.ensures.less c.in-Ok-true.field-0-test in
     record {
       stands = c.in-Ok-true.ensures.stands c.in-Ok-true.field-0-test;
       means = rest_means g.S.Sink.gave _ _ _ _ next c.loop-i.invariant.means;

@@ -6,6 +6,8 @@ use Rattle.zk_text.proofs.sweep.list_faults.Goals as goal
 
 pub loop-number-preserved : goal.loop-number-preserved
 loop-number-preserved c = record {
-  faults = subst (AreFaults c.args.memory.now) (sym c.in_ok-push.ensures.items) (more_faults c.args.memory.now _ _ c.loop-number.number c.loop-number.invariant.faults c.loop-number.invariant.size c.abbreviation_fault.ensures);
+  faults = subst (AreFaults c.args.memory.now) (sym c.in_ok-push.ensures.items)
+      (more_faults c.args.memory.now _ _ c.loop-number.number c.loop-number.invariant.faults
+      c.loop-number.invariant.size c.abbreviation_fault.ensures);
   size = grind (arith, common_steps);
 }

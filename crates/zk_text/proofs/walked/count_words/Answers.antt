@@ -9,10 +9,12 @@ returns-in_default c =
 
 pub returns-then-word-ge32768 : goal.returns-then-word-ge32768
 returns-then-word-ge32768 c =
-    let one = ap length (run_last c.args.memory.now c.loop-count.at c.in-Some.word (sym c.in-Some.ensures.value) c.if-word-ge32768.true) in
+    let one = ap length (run_last c.args.memory.now c.loop-count.at c.in-Some.word (sym c.in-Some.ensures.value)
+    c.if-word-ge32768.true) in
     omega (arith, c.loop-count.invariant, one, c.loop-count-test.true)
 
 pub loop-count-preserved : goal.loop-count-preserved
 loop-count-preserved c =
-    let on = ap length (run_next c.args.memory.now c.loop-count.at c.in-Some.word (sym c.in-Some.ensures.value) c.if-word-ge32768.false) in
+    let on = ap length (run_next c.args.memory.now c.loop-count.at c.in-Some.word (sym c.in-Some.ensures.value)
+    c.if-word-ge32768.false) in
     omega (arith, c.loop-count.invariant, on)

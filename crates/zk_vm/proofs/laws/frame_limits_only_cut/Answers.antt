@@ -1,4 +1,4 @@
-use Rattle.zk_vm.proofs.GreaterRoom.{frame_limits_only_cut}
+use Rattle.zk_vm.proofs.guards.GreaterRoom.{frame_limits_only_cut}
 use Rattle.zk_vm.proofs.laws.frame_limits_only_cut.Goals as goal
 
 pub returns : goal.returns

@@ -1,4 +1,4 @@
-use Rattle.zk_vm.proofs.Cuts.{limits_cut_runs}
+use Rattle.zk_vm.proofs.guards.Cuts.{limits_cut_runs}
 use Rattle.zk_vm.proofs.laws.limits_cut_runs.Goals as goal
 
 pub returns : goal.returns

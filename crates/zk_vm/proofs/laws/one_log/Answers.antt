@@ -1,4 +1,4 @@
-use Rattle.zk_vm.proofs.Dividing.{one_log}
+use Rattle.zk_vm.proofs.guards.Dividing.{one_log}
 use Rattle.zk_vm.proofs.laws.one_log.Goals as goal
 
 pub returns : goal.returns

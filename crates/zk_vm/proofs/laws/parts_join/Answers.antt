@@ -1,4 +1,4 @@
-use Rattle.zk_vm.proofs.Dividing.{parts_join}
+use Rattle.zk_vm.proofs.guards.Dividing.{parts_join}
 use Rattle.zk_vm.proofs.laws.parts_join.Goals as goal
 
 pub returns : goal.returns

@@ -8,4 +8,5 @@ pub returns-in-Char-clause-left : goal.returns-in-Char-clause-left
 returns-in-Char-clause-left c =
     let waits = rw c.in-Char.is at c.requires.waits in
     let left = rw c.first_of.ensures.value at c.answer_char.ensures.left in
-    subst (λ (s : Session). IsLeftAs c.answer_char.new.self s s.stopped) (char_given c.args.machine.now c.args.codes.now waits) left
+    subst (λ (s : Session). IsLeftAs c.answer_char.new.self s s.stopped)
+    (char_given c.args.machine.now c.args.codes.now waits) left

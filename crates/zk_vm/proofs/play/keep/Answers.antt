@@ -10,5 +10,7 @@ returns-clause-served g c =
     let answer = rw file at c.put-kept.ensures.answer in
     let kept = rw file at c.put-kept.ensures.kept in
     let put = rw file at c.put-kept.ensures.put in
-    offered (slot_tells g.K.SaveSlot.held g.K.SaveSlot.keeps g.K.SaveSlot.puts g.K.SaveSlot.gets g.K.SaveSlot.hears) c.args.slot.now c.put-kept.new.self c.args.machine.now c.answer_save.new.self c.put-kept.result c.answer_save.ensures.ran c.requires.waits c.answer_save.ensures.left
+    offered (slot_tells g.K.SaveSlot.held g.K.SaveSlot.keeps g.K.SaveSlot.puts g.K.SaveSlot.gets
+    g.K.SaveSlot.hears) c.args.slot.now c.put-kept.new.self c.args.machine.now c.answer_save.new.self
+    c.put-kept.result c.answer_save.ensures.ran c.requires.waits c.answer_save.ensures.left
     answer (λ e. OnTrue_at e kept) c.put-kept.ensures.refused put

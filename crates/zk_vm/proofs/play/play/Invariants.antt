@@ -14,7 +14,11 @@ invariant-loop-event g l = record {
   script_works : g.T.Target.failed l.script ≡ false;
   reader_works : g.R.Source.failed l.reader ≡ false;
   over : (l.lines.over ≡ None) ⊎ ((l.lines.over ≡ Some End) × HasJust g.R.Source.ends l.reader);
-  logged : (log : List Entry) × (PlayLog (slot_tells g.K.SaveSlot.held g.K.SaveSlot.keeps g.K.SaveSlot.puts g.K.SaveSlot.gets g.K.SaveSlot.hears) g.P.Places.noted g.met.P.Places.twice l.fn.machine l.machine l.fn.slot l.slot l.fn.places l.places (taken_by (g.S.Target.taken l.fn.screen) (g.T.Target.taken l.fn.script)) (taken_by (g.S.Target.taken l.screen) (g.T.Target.taken l.script)) log
+  logged : (log : List Entry)
+      × (PlayLog (slot_tells g.K.SaveSlot.held g.K.SaveSlot.keeps g.K.SaveSlot.puts g.K.SaveSlot.gets
+      g.K.SaveSlot.hears) g.P.Places.noted g.met.P.Places.twice l.fn.machine l.machine l.fn.slot l.slot
+      l.fn.places l.places (taken_by (g.S.Target.taken l.fn.screen) (g.T.Target.taken l.fn.script))
+      (taken_by (g.S.Target.taken l.screen) (g.T.Target.taken l.script)) log
       × SourceSoFar g.R.Source.left g.R.Source.gives l.fn.reader l.reader l.lines.ahead l.lines.over (reads_in log));
   limits : l.machine.limits ≡ l.fn.machine.limits;
 }

@@ -5,9 +5,11 @@ use Rattle.zk_host.proofs.name.NameSink.collect.Goals as goal
 pub returns-in-Nothing-clause-collected : goal.returns-in-Nothing-clause-collected
 returns-in-Nothing-clause-collected c =
     let is = rw c.in-Nothing.is at c.of.ensures in
-    subst (λ (cs : List ℕ). Collects c.args.self.now.name.now c.args.self.now.name.now cs []) is (collects_nothing c.args.self.now.name.now)
+    subst (λ (cs : List ℕ). Collects c.args.self.now.name.now c.args.self.now.name.now cs []) is
+    (collects_nothing c.args.self.now.name.now)
 
 pub returns-in-TwoSpaces-clause-collected : goal.returns-in-TwoSpaces-clause-collected
 returns-in-TwoSpaces-clause-collected c =
     let is = rw c.in-TwoSpaces.is at c.of.ensures in
-    subst (λ (cs : List ℕ). Collects c.args.self.now.name.now c.text-in-TwoSpaces-2.new.self cs []) is (collects_twice _ _ _ (32 ∷ []) (32 ∷ []) [] [] c.text-in-TwoSpaces.ensures c.text-in-TwoSpaces-2.ensures)
+    subst (λ (cs : List ℕ). Collects c.args.self.now.name.now c.text-in-TwoSpaces-2.new.self cs []) is
+    (collects_twice _ _ _ (32 ∷ []) (32 ∷ []) [] [] c.text-in-TwoSpaces.ensures c.text-in-TwoSpaces-2.ensures)

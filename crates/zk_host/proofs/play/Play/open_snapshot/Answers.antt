@@ -8,4 +8,6 @@ pub returns-in-Err-opened : goal.returns-in-Err-opened
 returns-in-Err-opened c =
     let is : refusal c.args.story.now ≡ None = search rules in
     let same : c.in-Ok.story ≡ c.args.story.now = search rules in
-    snapshot_refused_by c.args.story.now c.args.bytes.now c.args.most c.in-Err-opened.refusal is (subst (λ (s : List ℕ). IsPlayOpened s c.args.bytes.now c.args.most (Err c.in-Err-opened.refusal)) same c.in-Err-opened.ensures)
+    snapshot_refused_by c.args.story.now c.args.bytes.now c.args.most c.in-Err-opened.refusal is
+    (subst (λ (s : List ℕ). IsPlayOpened s c.args.bytes.now c.args.most (Err c.in-Err-opened.refusal)) same
+    c.in-Err-opened.ensures)

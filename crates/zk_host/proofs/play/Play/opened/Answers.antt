@@ -9,6 +9,7 @@ returns-then-not-are_within c = (
   c.in-Ok.machine,
   c.in-Ok.ensures.ok,
   λ within.
-      let told : IsTrue c.are_within.result = c.are_within.ensures.1 (subst (λ (l : Limits). AreWithin l c.args.most) (sym c.limits.ensures) within) in
+      let told : IsTrue c.are_within.result = c.are_within.ensures.1
+      (subst (λ (l : Limits). AreWithin l c.args.most) (sym c.limits.ensures) within) in
       let none = rw c.if-not-are_within.true at told in cc,
 )

@@ -7,7 +7,9 @@ pub loop-turn-init : goal.loop-turn-init
 loop-turn-init c = c.in_ok-list.ensures
 
 pub loop-turn-preserved : goal.loop-turn-preserved
-loop-turn-preserved c = ahead_power c.args.memory.now c.loop-turn._turn c.loop-turn.list.items c.in_ok-list-2.list.items c.loop-turn.invariant (let e = c.in_ok-list-2.ensures in let v = c.as_slice.ensures.value in e ∙ ap (λ (xs : List ℕ). map (λ o. get_or xs o 0) xs) v)
+loop-turn-preserved c = ahead_power c.args.memory.now c.loop-turn._turn c.loop-turn.list.items
+    c.in_ok-list-2.list.items c.loop-turn.invariant (let e = c.in_ok-list-2.ensures in
+    let v = c.as_slice.ensures.value in e ∙ ap (λ (xs : List ℕ). map (λ o. get_or xs o 0) xs) v)
 
 pub returns : goal.returns
 returns c =

@@ -6,4 +6,6 @@ use Rattle.zk_inspect.specs.Lists.{IsListOf}
 use Rattle.zk_inspect.proofs.check.text_faults.find_nested.Goals as goal
 
 pub returns : goal.returns
-returns c = IfOk-weaker _ _ _ (λ list is. subst (IsListOf (Finds c.args.memory.now NestedAbbreviation)) (sym is) c.requires.nested) c.reversed.ensures
+returns c =
+    IfOk-weaker _ _ _ (λ list is. subst (IsListOf (Finds c.args.memory.now NestedAbbreviation)) (sym is)
+    c.requires.nested) c.reversed.ensures

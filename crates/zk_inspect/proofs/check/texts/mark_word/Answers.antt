@@ -9,14 +9,19 @@ use Rattle.zk_inspect.proofs.check.texts.mark_word.Goals as goal
 
 pub returns-in-Ok : goal.returns-in-Ok
 returns-in-Ok c =
-    let place : c.header.result.abbreviations + 2 * c.args.number ≡ table_place c.args.memory.now c.args.number = ap (λ (h : Header). h.abbreviations + 2 * c.args.number) c.header.ensures in
+    let place : c.header.result.abbreviations + 2 * c.args.number ≡ table_place c.args.memory.now
+    c.args.number = ap (λ (h : Header). h.abbreviations + 2 * c.args.number) c.header.ensures in
     let small : c.in-Ok.word < 65536 = search rules in
-    table_word c.args.memory.now c.args.number c.in-Ok.word _ _ _ c.requires.few c.requires.tabled small (ap (word_at c.args.memory.now) (sym place) ∙ sym c.in-Ok.ensures) c.requires.marks c.mark.ensures
+    table_word c.args.memory.now c.args.number c.in-Ok.word _ _ _ c.requires.few c.requires.tabled small
+    (ap (word_at c.args.memory.now) (sym place) ∙ sym c.in-Ok.ensures) c.requires.marks c.mark.ensures
 
 pub returns-in-Err : goal.returns-in-Err
 returns-in-Err c =
-    let place : c.header.result.abbreviations + 2 * c.args.number ≡ table_place c.args.memory.now c.args.number = ap (λ (h : Header). h.abbreviations + 2 * c.args.number) c.header.ensures in
+    let place : c.header.result.abbreviations + 2 * c.args.number ≡ table_place c.args.memory.now
+    c.args.number = ap (λ (h : Header). h.abbreviations + 2 * c.args.number) c.header.ensures in
     let small : c.header.result.abbreviations < 65536 = search rules in
     let few = c.requires.few in
     let near : table_place c.args.memory.now c.args.number < 131071 = omega arith in
-    table_unread c.args.memory.now c.args.number _ _ _ _ c.requires.few c.requires.tabled near (ap (word_at c.args.memory.now) (sym place) ∙ sym c.in-Err.ensures) c.requires.marks (c.mark-in-Err.ensures ∙ ap (λ (a : ℕ). slice_set c.args.unread.now a true) place)
+    table_unread c.args.memory.now c.args.number _ _ _ _ c.requires.few c.requires.tabled near
+    (ap (word_at c.args.memory.now) (sym place) ∙ sym c.in-Err.ensures) c.requires.marks
+    (c.mark-in-Err.ensures ∙ ap (λ (a : ℕ). slice_set c.args.unread.now a true) place)

@@ -2,7 +2,8 @@ use Rattle.zk_inspect.proofs.Plain.{plain_text, faulty_text}
 use Rattle.zk_inspect.proofs.listing.abbreviation_lines.write_checked.Goals as goal
 
 pub write_meaning-requires : goal.write_meaning-requires
-write_meaning-requires g c = rw (plain_text c.args.memory.now c.args.address c.in-Ok.ensures.meaning) c.in-Ok.ensures.meaning
+write_meaning-requires g c =
+    rw (plain_text c.args.memory.now c.args.address c.in-Ok.ensures.meaning) c.in-Ok.ensures.meaning
 
 pub returns-in-Ok : goal.returns-in-Ok
 returns-in-Ok g c = rw (plain_text c.args.memory.now c.args.address c.in-Ok.ensures.meaning) at c.write_meaning.ensures

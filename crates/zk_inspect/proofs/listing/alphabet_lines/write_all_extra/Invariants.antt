@@ -4,4 +4,5 @@ use Rattle.zk_inspect.specs.AlphabetLines.{extra_text}
 use Rattle.zk_inspect.proofs.listing.alphabet_lines.write_all_extra.Given as goal
 
 abbrev pub invariant-loop-before : goal.invariant-loop-before
-invariant-loop-before g l = g.P.LineWriter.wrote l.fn.writer l.writer (flat_map (extra_text l.memory) (take l.before (range_with_len 155 97)))
+invariant-loop-before g l =
+    g.P.LineWriter.wrote l.fn.writer l.writer (flat_map (extra_text l.memory) (take l.before (range_with_len 155 97)))

@@ -4,7 +4,10 @@ use Rattle.zk_inspect.proofs.Numbered.{numbered_all, numbered_more}
 use Rattle.zk_inspect.proofs.listing.alphabet_lines.write_letters.Goals as goal
 
 pub loop-before-preserved : goal.loop-before-preserved
-loop-before-preserved g c = numbered_more g.P.LineWriter.wrote g.met.P.LineWriter.twice _ _ _ (letter_text c.args.memory.now c.args.row) c.args.first c.args.count c.loop-before.before _ (omega arith) (omega arith) c.loop-before.invariant c.write_letter.ensures
+loop-before-preserved g c = numbered_more g.P.LineWriter.wrote g.met.P.LineWriter.twice _ _ _
+    (letter_text c.args.memory.now c.args.row) c.args.first c.args.count c.loop-before.before _ (omega arith)
+    (omega arith) c.loop-before.invariant c.write_letter.ensures
 
 pub returns : goal.returns
-returns g c = numbered_all g.P.LineWriter.wrote _ _ (letter_text c.args.memory.now c.args.row) c.args.first c.args.count c.loop-before.before (omega arith) c.loop-before.invariant
+returns g c = numbered_all g.P.LineWriter.wrote _ _ (letter_text c.args.memory.now c.args.row) c.args.first
+    c.args.count c.loop-before.before (omega arith) c.loop-before.invariant

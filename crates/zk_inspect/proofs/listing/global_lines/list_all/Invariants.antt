@@ -4,4 +4,5 @@ use Rattle.zk_inspect.specs.declared.fact.Fact.TheVariants as fact
 use Rattle.zk_inspect.proofs.listing.global_lines.list_all.Given as goal
 
 abbrev pub invariant-loop-number : goal.invariant-loop-number
-invariant-loop-number g l = g.F.FactWriter.wrote l.fn.facts l.facts (map fact.Global (take l.number (range_with_len 0 240)))
+invariant-loop-number g l =
+    g.F.FactWriter.wrote l.fn.facts l.facts (map fact.Global (take l.number (range_with_len 0 240)))

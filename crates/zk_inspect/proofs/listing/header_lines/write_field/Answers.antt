@@ -6,4 +6,5 @@ pub returns : goal.returns
 unfolding field_line
 returns g c =
     let on = g.met.P.LineWriter.twice in
-    on _ _ _ _ _ (on _ _ _ _ _ (rw (c.as_bytes.ensures.value ∙ c.name.ensures) at c.write.ensures) c.write-2.ensures) (rw c.value_of.ensures at c.write_value.ensures)
+    on _ _ _ _ _ (on _ _ _ _ _ (rw (c.as_bytes.ensures.value ∙ c.name.ensures) at c.write.ensures)
+    c.write-2.ensures) (rw c.value_of.ensures at c.write_value.ensures)

@@ -13,11 +13,14 @@ loop-number-preserved c =
     record {
       found = c.keep.ensures.items
           ∙ ap (λ (l : List ℕ). l ++ (if c.has_attribute-set.result then i ∷ [] else [])) c.loop-number.invariant.found
-          ∙ ap (λ (b : Bool). filter p (take i (range_with_len 0 48)) ++ (if b then i ∷ [] else [])) c.has_attribute-set.ensures
+          ∙ ap (λ (b : Bool). filter p (take i (range_with_len 0 48)) ++ (if b then i ∷ [] else []))
+          c.has_attribute-set.ensures
           ∙ sym (filter_more_numbers p 0 48 i i (omega arith) (omega arith));
       few = omega (arith, c.keep.ensures.few, c.loop-number.invariant.few);
     }
 
 pub returns : goal.returns
 unfolding attributes_of
-returns c = c.loop-number.invariant.found ∙ filter_all (λ n. is_set (attribute_at c.args.memory.now c.args.object n)) 0 48 c.loop-number.number (omega arith)
+returns c =
+    c.loop-number.invariant.found ∙ filter_all (λ n. is_set (attribute_at c.args.memory.now c.args.object n)) 0 48
+    c.loop-number.number (omega arith)

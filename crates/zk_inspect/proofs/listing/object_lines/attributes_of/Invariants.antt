@@ -6,6 +6,7 @@ use Rattle.zk_inspect.proofs.listing.object_lines.attributes_of.Given as goal
 
 abbrev pub invariant-loop-number : goal.invariant-loop-number
 invariant-loop-number l = record {
-  found : l.attributes.items ≡ filter (λ n. is_set (attribute_at l.memory l.object n)) (take l.number (range_with_len 0 48));
+  found : l.attributes.items ≡ filter (λ n. is_set (attribute_at l.memory l.object n))
+      (take l.number (range_with_len 0 48));
   few : length l.attributes.items ≤ l.number;
 }

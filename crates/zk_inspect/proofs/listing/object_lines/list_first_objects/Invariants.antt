@@ -4,4 +4,5 @@ use Rattle.zk_inspect.specs.declared.fact.Fact.TheVariants as fact
 use Rattle.zk_inspect.proofs.listing.object_lines.list_first_objects.Given as goal
 
 abbrev pub invariant-loop-before : goal.invariant-loop-before
-invariant-loop-before g l = g.F.FactWriter.wrote l.fn.facts l.facts (map fact.Object (take l.before (range_with_len 1 l.count)))
+invariant-loop-before g l =
+    g.F.FactWriter.wrote l.fn.facts l.facts (map fact.Object (take l.before (range_with_len 1 l.count)))

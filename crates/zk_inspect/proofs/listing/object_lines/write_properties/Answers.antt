@@ -16,9 +16,11 @@ returns-in-Ok-check_properties g c =
 
 pub returns-in-Err-check_properties : goal.returns-in-Err-check_properties
 returns-in-Err-check_properties g c =
-    rw (text_of_fault _ c.in-Err-check_properties.fault c.in-Err-check_properties.ensures.value) (rw c.number.ensures at c.write_decimal.ensures)
+    rw (text_of_fault _ c.in-Err-check_properties.fault c.in-Err-check_properties.ensures.value)
+    (rw c.number.ensures at c.write_decimal.ensures)
 
 pub returns-in-Err : goal.returns-in-Err
 returns-in-Err g c =
     let there : list_of c.args.memory.now c.args.object ≡ Err c.in-Err.fault = search rules in
-    rw (text_of_fault _ c.in-Err.fault (without_list c.args.memory.now c.args.object c.in-Err.fault there)) (rw c.number-in-Err.ensures at c.write_decimal-in-Err.ensures)
+    rw (text_of_fault _ c.in-Err.fault (without_list c.args.memory.now c.args.object c.in-Err.fault there))
+    (rw c.number-in-Err.ensures at c.write_decimal-in-Err.ensures)

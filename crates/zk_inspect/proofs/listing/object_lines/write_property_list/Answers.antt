@@ -14,7 +14,8 @@ write_further_properties-requires g c =
     let there : property_at m c.args.address ≡ Ok (Some c.in-Ok-Some.property) = search rules in
     let some : 1 ≤ readable_end m = reaches_data m c.args.address c.requires in
     let size : readable_end m ≡ suc (c.data_end.result - 1) = omega (arith, c.data_end.ensures.value, some) in
-    subst (λ (a : ℕ). IsOk (properties_from m (c.data_end.result - 1) a)) (sym c.end.ensures) (rest_is_list m c.args.address (c.data_end.result - 1) c.in-Ok-Some.property size there c.requires)
+    subst (λ (a : ℕ). IsOk (properties_from m (c.data_end.result - 1) a)) (sym c.end.ensures)
+    (rest_is_list m c.args.address (c.data_end.result - 1) c.in-Ok-Some.property size there c.requires)
 
 pub returns-in-Ok-Some : goal.returns-in-Ok-Some
 returns-in-Ok-Some g c =
@@ -22,7 +23,9 @@ returns-in-Ok-Some g c =
     let there : property_at m c.args.address ≡ Ok (Some c.in-Ok-Some.property) = search rules in
     let some : 1 ≤ readable_end m = reaches_data m c.args.address c.requires in
     let size : readable_end m ≡ suc (c.data_end.result - 1) = omega (arith, c.data_end.ensures.value, some) in
-    rw (by_first m c.args.address (c.data_end.result - 1) c.in-Ok-Some.property size there c.requires) (g.met.P.LineWriter.twice _ _ _ _ _ c.write_property.ensures (rw c.end.ensures at c.write_further_properties.ensures))
+    rw (by_first m c.args.address (c.data_end.result - 1) c.in-Ok-Some.property size there c.requires)
+    (g.met.P.LineWriter.twice _ _ _ _ _ c.write_property.ensures
+    (rw c.end.ensures at c.write_further_properties.ensures))
 
 pub returns-in-Ok-None : goal.returns-in-Ok-None
 returns-in-Ok-None g c =

@@ -6,4 +6,5 @@ use Rattle.zk_inspect.proofs.listing.quoting.write_checked.Goals as goal
 pub returns-in-Err : goal.returns-in-Err
 returns-in-Err g c =
     let fault = checked_fault c.args.memory.now c.args.address c.in-Err.fault (sym c.in-Err.ensures.value) in
-    rw (fault_text c.args.memory.now (text_units c.args.memory.now c.args.address) c.in-Err.fault _ fault c.number.ensures) c.write_decimal.ensures
+    rw (fault_text c.args.memory.now (text_units c.args.memory.now c.args.address) c.in-Err.fault _ fault
+    c.number.ensures) c.write_decimal.ensures

@@ -15,4 +15,5 @@ loop-c-preserved g c =
     let x = c.c-item.result in
     let more = take_more xs i x c.loop-c-test.true ∙ ap (λ (y : ℕ). take i xs ++ y ∷ []) (sym c.c-item.is) in
     let all = ap quoted_bytes more ∙ quoted-append (take i xs) (x ∷ []) in
-    subst (λ (l : List ℕ). g.P.LineWriter.wrote c.args.writer.now c.write_character.new.writer l) (sym all) (g.met.P.LineWriter.twice _ _ _ _ _ c.loop-c.invariant c.write_character.ensures)
+    subst (λ (l : List ℕ). g.P.LineWriter.wrote c.args.writer.now c.write_character.new.writer l) (sym all)
+    (g.met.P.LineWriter.twice _ _ _ _ _ c.loop-c.invariant c.write_character.ensures)

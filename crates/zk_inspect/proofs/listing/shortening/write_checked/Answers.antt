@@ -7,4 +7,5 @@ use Rattle.zk_inspect.proofs.listing.shortening.write_checked.Goals as goal
 pub returns-in-Err : goal.returns-in-Err
 returns-in-Err g c =
     let fault = checked_fault c.args.memory.now c.args.address c.in-Err.fault (sym c.in-Err.ensures.value) in
-    rw (short_fault c.args.memory.now (text_units c.args.memory.now c.args.address) c.in-Err.fault fault) c.write_fault.ensures
+    rw (short_fault c.args.memory.now (text_units c.args.memory.now c.args.address) c.in-Err.fault fault)
+    c.write_fault.ensures

@@ -8,5 +8,6 @@ invariant-loop-before g l = record {
   room : l.walk.count < length l.walk.listed;
   count : l.walk.count ≡ l.fn.walk.count;
   rows : GaveSome (AreRows (IsUpTo l.fn.walk.count) (λ o. ⊥)) g.F.FactWriter.wrote l.fn.facts l.facts;
-  top : GaveSome (AreRows (IsUpTo l.fn.walk.count) (λ o. IsUpTo l.before o × HasNoParent l.memory o)) g.F.FactWriter.wrote l.fn.facts l.facts;
+  top : GaveSome (AreRows (IsUpTo l.fn.walk.count) (λ o. IsUpTo l.before o × HasNoParent l.memory o))
+      g.F.FactWriter.wrote l.fn.facts l.facts;
 }

@@ -4,4 +4,5 @@ use Rattle.zk_inspect.proofs.reach.Search.find.Goals as goal
 
 pub returns-clause-search : goal.returns-clause-search
 returns-clause-search c =
-    found_new _ c.args.roots.now c.args.self.now _ c.args.address c.requires.search c.requires.reached c.requires.within (sym c.has.ensures ∙ c.if-has.false) c.mark.ensures refl c.in_ok-push.ensures
+    found_new _ c.args.roots.now c.args.self.now _ c.args.address c.requires.search c.requires.reached
+    c.requires.within (sym c.has.ensures ∙ c.if-has.false) c.mark.ensures refl c.in_ok-push.ensures

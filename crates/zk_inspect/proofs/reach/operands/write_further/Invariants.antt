@@ -4,4 +4,5 @@ use Rattle.zk_inspect.specs.Listing.{further_text}
 use Rattle.zk_inspect.proofs.reach.operands.write_further.Given as goal
 
 abbrev pub invariant-loop-operand : goal.invariant-loop-operand
-invariant-loop-operand g l = g.P.LineWriter.wrote l.fn.writer l.writer (flat_map further_text (take l.operand-index l.operands))
+invariant-loop-operand g l =
+    g.P.LineWriter.wrote l.fn.writer l.writer (flat_map further_text (take l.operand-index l.operands))

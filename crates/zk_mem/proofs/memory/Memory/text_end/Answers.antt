@@ -4,10 +4,12 @@ use Rattle.zk_mem.proofs.memory.Memory.text_end.Goals as goal
 
 pub returns-then-word-ge32768-clause-value : goal.returns-then-word-ge32768-clause-value
 returns-then-word-ge32768-clause-value c =
-    let last = end_last c.args.self.now c.loop-i.at c.in-Some.word (sym c.in-Some.ensures.value) c.if-word-ge32768.true in
+    let last = end_last c.args.self.now c.loop-i.at c.in-Some.word (sym c.in-Some.ensures.value)
+    c.if-word-ge32768.true in
     sym last ∙ c.loop-i.invariant.rest
 
 pub returns-then-word-ge32768-clause-within : goal.returns-then-word-ge32768-clause-within
 returns-then-word-ge32768-clause-within c =
-    let last = end_last c.args.self.now c.loop-i.at c.in-Some.word (sym c.in-Some.ensures.value) c.if-word-ge32768.true in
+    let last = end_last c.args.self.now c.loop-i.at c.in-Some.word (sym c.in-Some.ensures.value)
+    c.if-word-ge32768.true in
     end_inside c.args.self.now c.loop-i.at (c.loop-i.at + 2) last

@@ -6,4 +6,5 @@ use Rattle.zk_notes.proofs.cover.Coverage.instructions_run.Given as goal
 abbrev pub invariant-loop-address : goal.invariant-loop-address
 invariant-loop-address l =
     (l.count ≤ l.address-index)
-    × (IsNonDecreasing l.self.covered.now → l.count ≡ count_by (has_run l.self.covered.now) (take l.address-index l.self.instructions.now))
+    × (IsNonDecreasing l.self.covered.now → l.count ≡ count_by (has_run l.self.covered.now)
+    (take l.address-index l.self.instructions.now))

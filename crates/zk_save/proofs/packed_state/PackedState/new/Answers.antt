@@ -10,7 +10,12 @@ pub invariant_of-result : goal.invariant_of-result
 invariant_of-result c =
     let bytes : List ℕ = c.dynamic-dynamic.result.now in
     let file : List ℕ = c.original.result.now in
-    let le : length bytes ≤ length file = omega (arith, c.dynamic-dynamic.ensures.len, c.dynamic-dynamic.ensures.within, ap length c.original.ensures) in
+    let le : length bytes ≤ length file = omega (
+      arith,
+      c.dynamic-dynamic.ensures.len,
+      c.dynamic-dynamic.ensures.within,
+      ap length c.original.ensures,
+    ) in
     let back = bytes_back c.in_ok-packed.packed.items bytes file le c.in_ok-packed.ensures.value in
     record { packing = rw back (sym c.in_ok-packed.ensures.value); long = ap length back ∙ length-xored bytes file le }
 
@@ -18,16 +23,34 @@ pub returns-clause-state : goal.returns-clause-state
 returns-clause-state c =
     let bytes : List ℕ = c.dynamic-dynamic.result.now in
     let file : List ℕ = c.original.result.now in
-    let le : length bytes ≤ length file = omega (arith, c.dynamic-dynamic.ensures.len, c.dynamic-dynamic.ensures.within, ap length c.original.ensures) in
-    let back : bytes_in c.in_ok-packed.packed.items (length bytes) ≡ xored bytes file = bytes_back c.in_ok-packed.packed.items bytes file le c.in_ok-packed.ensures.value in
-    rw (back, ← c.original.ensures, bytes_again bytes file le, c.dynamic-dynamic.ensures.value, c.in_ok-frames.ensures) refl
+    let le : length bytes ≤ length file = omega (
+      arith,
+      c.dynamic-dynamic.ensures.len,
+      c.dynamic-dynamic.ensures.within,
+      ap length c.original.ensures,
+    ) in
+    let back : bytes_in c.in_ok-packed.packed.items (length bytes) ≡ xored bytes file = bytes_back
+    c.in_ok-packed.packed.items bytes file le c.in_ok-packed.ensures.value in
+    rw (
+      back,
+      ← c.original.ensures,
+      bytes_again bytes file le,
+      c.dynamic-dynamic.ensures.value,
+      c.in_ok-frames.ensures,
+    ) refl
 
 pub returns-clause-is_of : goal.returns-clause-is_of
 returns-clause-is_of c =
     let bytes : List ℕ = c.dynamic-dynamic.result.now in
     let file : List ℕ = c.original.result.now in
-    let le : length bytes ≤ length file = omega (arith, c.dynamic-dynamic.ensures.len, c.dynamic-dynamic.ensures.within, ap length c.original.ensures) in
-    let back : bytes_in c.in_ok-packed.packed.items (length bytes) ≡ xored bytes file = bytes_back c.in_ok-packed.packed.items bytes file le c.in_ok-packed.ensures.value in
+    let le : length bytes ≤ length file = omega (
+      arith,
+      c.dynamic-dynamic.ensures.len,
+      c.dynamic-dynamic.ensures.within,
+      ap length c.original.ensures,
+    ) in
+    let back : bytes_in c.in_ok-packed.packed.items (length bytes) ≡ xored bytes file = bytes_back
+    c.in_ok-packed.packed.items bytes file le c.in_ok-packed.ensures.value in
     record {
       dynamic = ap length back ∙ length-xored bytes file le ∙ c.dynamic-dynamic.ensures.len;
       some = rw c.in_ok-frames.ensures (omega arith);

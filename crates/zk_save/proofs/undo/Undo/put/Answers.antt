@@ -16,8 +16,16 @@ pub returns-clause-ok : goal.returns-clause-ok
 unfolding states_in
 returns-clause-ok c =
     let fits = rw c.in-Some.is at c.self.invariant.fits in
-    rw (← c.self.view_is, c.in-Some.is, c.push_back.ensures.items, fits.0, ring_put c.in-Some.ring.items c.in_ok-kept.kept c.self.inside.most)
-    (states_put c.args.memory.now.file c.self.inside.most c.in_ok-kept.kept (state_of c.args.memory.now c.args.frames.now c.args.pc) (reverse c.in-Some.ring.items) c.in_ok-kept.ensures.state)
+    rw (
+      ← c.self.view_is,
+      c.in-Some.is,
+      c.push_back.ensures.items,
+      fits.0,
+      ring_put c.in-Some.ring.items c.in_ok-kept.kept c.self.inside.most,
+    )
+    (states_put c.args.memory.now.file c.self.inside.most c.in_ok-kept.kept
+    (state_of c.args.memory.now c.args.frames.now c.args.pc) (reverse c.in-Some.ring.items)
+    c.in_ok-kept.ensures.state)
 
 pub returns-clause-are_of : goal.returns-clause-are_of
 unfolding AreOf
@@ -27,4 +35,7 @@ returns-clause-are_of c = λ are.
     let fits = rw c.in-Some.is at c.self.invariant.fits in
     let old = rw (← c.self.view_is, c.in-Some.is) at are in
     rw (c.push_back.ensures.items, fits.0, ring_put c.in-Some.ring.items c.in_ok-kept.kept c.self.inside.most)
-    (All-take (IsOf m.static_base f.most_frames f.most_words) c.self.inside.most (c.in_ok-kept.kept ∷ reverse c.in-Some.ring.items) (All-cons (IsOf m.static_base f.most_frames f.most_words) c.in_ok-kept.kept (reverse c.in-Some.ring.items) c.in_ok-kept.ensures.is_of old))
+    (All-take (IsOf m.static_base f.most_frames f.most_words) c.self.inside.most
+    (c.in_ok-kept.kept ∷ reverse c.in-Some.ring.items)
+    (All-cons (IsOf m.static_base f.most_frames f.most_words) c.in_ok-kept.kept (reverse c.in-Some.ring.items)
+    c.in_ok-kept.ensures.is_of old))

@@ -15,7 +15,8 @@ put_back-requires c =
 
 pub returns-in-Some-clause-value : goal.returns-in-Some-clause-value
 unfolding states_in
-returns-in-Some-clause-value c = rw c.in-Some.ensures (c.put_back.ensures.state (map (whole_state c.args.memory.now.file) c.pop.new.self.states))
+returns-in-Some-clause-value c =
+    rw c.in-Some.ensures (c.put_back.ensures.state (map (whole_state c.args.memory.now.file) c.pop.new.self.states))
 
 pub returns-in-Some-clause-are_of : goal.returns-in-Some-clause-are_of
 unfolding AreOf bounds_of
@@ -26,7 +27,8 @@ returns-in-Some-clause-are_of c =
     let bounds = c.put_back.ensures.bounds in
     let frames = ap (λ (p : ℕ × ℕ). p.0) bounds in
     let words = ap (λ (p : ℕ × ℕ). p.1) bounds in
-    rw (c.put_back.ensures.base, frames, words) (All-tail (IsOf m.static_base f.most_frames f.most_words) c.in-Some.kept c.pop.new.self.states are)
+    rw (c.put_back.ensures.base, frames, words) (All-tail (IsOf m.static_base f.most_frames f.most_words)
+    c.in-Some.kept c.pop.new.self.states are)
 
 pub returns-in-None-clause-value : goal.returns-in-None-clause-value
 unfolding states_in gone_back

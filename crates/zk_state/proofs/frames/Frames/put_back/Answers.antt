@@ -6,7 +6,13 @@ pub put-requires : goal.put-requires
 put-requires c =
     let k = c.copy.inside in
     let few = rw (← c.self.view_is, ← c.copy.view_is) at c.requires.frames in
-    omega (arith, few, copy_length k.current k.callers.items k.words.items, ap length c.as_slice.ensures.value, c.self.invariant.frame_room)
+    omega (
+      arith,
+      few,
+      copy_length k.current k.callers.items k.words.items,
+      ap length c.as_slice.ensures.value,
+      c.self.invariant.frame_room,
+    )
 
 pub copy_words-requires : goal.copy_words-requires
 copy_words-requires c =
@@ -14,7 +20,13 @@ copy_words-requires c =
     let k = c.copy.inside in
     let i = c.copy.invariant in
     let short = rw (← c.self.view_is, ← c.copy.view_is) at c.requires.words in
-    omega (arith, short, copy_size k.current k.callers.items k.words.items i.base i.stack_base i.below, ap length c.as_slice-2.ensures.value, c.self.invariant.size)
+    omega (
+      arith,
+      short,
+      copy_size k.current k.callers.items k.words.items i.base i.stack_base i.below,
+      ap length c.as_slice-2.ensures.value,
+      c.self.invariant.size,
+    )
 
 pub invariant_of-self : goal.invariant_of-self
 invariant_of-self c =

@@ -6,4 +6,5 @@ use Rattle.zk_step.proofs.output.giving.give_output.Goals as goal
 pub returns-in-Number-clause-err : goal.returns-in-Number-clause-err
 unfolding units_of
 returns-in-Number-clause-err g c =
-    rw c.in-Number.is (on_err_weaker c.give_number.result (λ refuses. let all = refuses [] in rw append-nil at all) c.give_number.ensures.err)
+    rw c.in-Number.is (on_err_weaker c.give_number.result (λ refuses. let all = refuses [] in
+    rw append-nil at all) c.give_number.ensures.err)

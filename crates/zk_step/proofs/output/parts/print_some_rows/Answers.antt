@@ -18,14 +18,22 @@ loop-i-preserved c =
     let t = own_characters m in
     let size = rows_length m c.args.rectangle r.0 r.1 in
     let below : row < length r.0 = omega (arith, size, c.if-row-rectangle.false) in
-    let here = c.print_row_if.ensures (get_or r.0 row []) (row_is m c.args.rectangle row r.0 r.1 (omega (arith, c.if-row-rectangle.false))) in
-    let step : upper_rows c.args.on t c.args.column (row + 1) (rest_rows m c.args.rectangle (row + 1)) c.print_row_if.new.windows ≡ upper_rows c.args.on t c.args.column row (rest_rows m c.args.rectangle row) c.loop-i.windows =
+    let here = c.print_row_if.ensures (get_or r.0 row [])
+    (row_is m c.args.rectangle row r.0 r.1 (omega (arith, c.if-row-rectangle.false))) in
+    let step : upper_rows c.args.on t c.args.column (row + 1) (rest_rows m c.args.rectangle (row + 1))
+    c.print_row_if.new.windows ≡ upper_rows c.args.on t c.args.column row (rest_rows m c.args.rectangle row)
+    c.loop-i.windows =
     elim c.if-row-gt0.branch [
-      | then-row-gt0 w ↦ rw r.2 (upper_next c.args.on t c.args.column row r.0 c.loop-i.windows c.print_row_if.new.windows (omega (arith, w.if-row-gt0.true)) below (here ∙ ap (printed_if c.args.on (shown_all t (row_units (get_or r.0 row [])))) (w.windows-is ∙ w.start_row.ensures)))
+      | then-row-gt0 w ↦ rw r.2 (upper_next c.args.on t c.args.column row r.0 c.loop-i.windows
+          c.print_row_if.new.windows (omega (arith, w.if-row-gt0.true)) below
+          (here ∙ ap (printed_if c.args.on (shown_all t (row_units (get_or r.0 row []))))
+          (w.windows-is ∙ w.start_row.ensures)))
       | else-row-gt0 w ↦
           let zero : row ≡ 0 = omega (arith, w.if-row-gt0.false) in
-          let first = rw zero at (here ∙ ap (printed_if c.args.on (shown_all t (row_units (get_or r.0 row [])))) w.windows-is) in
-          rw (r.2, zero) (upper_first c.args.on t c.args.column r.0 c.loop-i.windows c.print_row_if.new.windows (omega (arith, below)) first)
+          let first = rw zero at (here ∙ ap (printed_if c.args.on (shown_all t (row_units (get_or r.0 row []))))
+          w.windows-is) in
+          rw (r.2, zero) (upper_first c.args.on t c.args.column r.0 c.loop-i.windows c.print_row_if.new.windows
+          (omega (arith, below)) first)
     ] in
     record {
       value = step ∙ c.loop-i.invariant.value;

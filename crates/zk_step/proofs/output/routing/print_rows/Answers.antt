@@ -21,7 +21,8 @@ loop-row-init c =
       so_far = λ rows h.
           let long = rows_length c.args.memory.now c.args.rectangle rows h in
           let some : 0 < c.args.rectangle.height = search rules in
-          rw c.cursor-column.ensures.column (rows_begin c.args.on (own_characters c.args.memory.now) rows c.args.windows.now c.print_row_if.new.windows (omega (arith, long, some))
+          rw c.cursor-column.ensures.column (rows_begin c.args.on (own_characters c.args.memory.now) rows
+          c.args.windows.now c.print_row_if.new.windows (omega (arith, long, some))
           (c.print_row_if.ensures (get_or rows 0 []) (row_is c.args.memory.now c.args.rectangle 0 rows h some)));
     }
 
@@ -34,12 +35,16 @@ loop-row-preserved c =
       so_far = λ rows h.
           let long = rows_length c.args.memory.now c.args.rectangle rows h in
           let below : row < length rows = omega (arith, long, c.loop-row-test.true) in
-          let is = c.print_row_if-in-loop-row.ensures (get_or rows row []) (row_is c.args.memory.now c.args.rectangle row rows h c.loop-row-test.true) ∙ ap (printed_if c.args.on (shown_all t (row_units (get_or rows row [])))) c.start_row.ensures in
-          sym (row_on c.args.on t c.cursor-column.result.1 row rows c.loop-row.windows c.print_row_if-in-loop-row.new.windows below is) ∙ c.loop-row.invariant.so_far rows h;
+          let is = c.print_row_if-in-loop-row.ensures (get_or rows row [])
+          (row_is c.args.memory.now c.args.rectangle row rows h c.loop-row-test.true)
+          ∙ ap (printed_if c.args.on (shown_all t (row_units (get_or rows row [])))) c.start_row.ensures in
+          sym (row_on c.args.on t c.cursor-column.result.1 row rows c.loop-row.windows
+          c.print_row_if-in-loop-row.new.windows below is) ∙ c.loop-row.invariant.so_far rows h;
     }
 
 pub returns : goal.returns
 returns c =
     let r = ready_rows (rows_of c.args.memory.now c.args.rectangle) c.requires in
     let long = rows_length c.args.memory.now c.args.rectangle r.0 r.1 in
-    rw r.2 (sym (rows_end c.args.on (own_characters c.args.memory.now) c.cursor-column.result.1 c.loop-row.row r.0 c.loop-row.windows (omega (arith, long, c.loop-row-test.false))) ∙ c.loop-row.invariant.so_far r.0 r.1)
+    rw r.2 (sym (rows_end c.args.on (own_characters c.args.memory.now) c.cursor-column.result.1 c.loop-row.row r.0
+    c.loop-row.windows (omega (arith, long, c.loop-row-test.false))) ∙ c.loop-row.invariant.so_far r.0 r.1)

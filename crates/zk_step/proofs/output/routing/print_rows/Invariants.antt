@@ -8,5 +8,6 @@ abbrev pub invariant-loop-row : goal.invariant-loop-row
 invariant-loop-row l = record {
   from : 1 ≤ l.row;
   so_far : (rows : List (List ℕ)) → rows_of l.memory l.rectangle ≡ Ok rows
-      → rows_printed l.on (own_characters l.memory) l.column (drop l.row rows) l.windows ≡ rectangle_printed l.on (own_characters l.memory) rows l.fn.windows;
+      → rows_printed l.on (own_characters l.memory) l.column (drop l.row rows) l.windows ≡ rectangle_printed l.on
+      (own_characters l.memory) rows l.fn.windows;
 }

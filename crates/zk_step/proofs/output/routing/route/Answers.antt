@@ -37,5 +37,6 @@ returns-in-Err-clause-value g c =
 
 pub returns-in_default : goal.returns-in_default
 returns-in_default g c =
-    let same = text_is_routed c.args.game.now.memory c.args.game.now c.args.begun.now.effect.output c.in_default.not-Nothing c.in_default.not-Status in
+    let same = text_is_routed c.args.game.now.memory c.args.game.now c.args.begun.now.effect.output
+    c.in_default.not-Nothing c.in_default.not-Status in
     rw same c.route_text.ensures

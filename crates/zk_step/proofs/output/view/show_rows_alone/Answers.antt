@@ -20,10 +20,19 @@ pub returns-clause-state : goal.returns-clause-state
 returns-clause-state g c =
     let w = c.args.game.now in
     let some : 0 < w.windows.height = search rules in
-    rw (c.requires, some_lines w (rows_shown w.windows 1 w.windows.height) (some_rows w.windows w.windows.height 1 some)) refl
+    rw (
+      c.requires,
+      some_lines w (rows_shown w.windows 1 w.windows.height)
+          (some_rows w.windows w.windows.height 1 some),
+    ) refl
 
 pub returns-clause-text : goal.returns-clause-text
 returns-clause-text g c =
     let w = c.args.game.now in
     let some : 0 < w.windows.height = search rules in
-    rw (c.requires, some_lines w (rows_shown w.windows 1 w.windows.height) (some_rows w.windows w.windows.height 1 some)) (g.met.S.Screen.twice _ _ _ (fresh_line w.at_line_start) (rows_shown w.windows 1 w.windows.height) [] [] c.start_line.ensures c.show_rows.ensures)
+    rw (
+      c.requires,
+      some_lines w (rows_shown w.windows 1 w.windows.height)
+          (some_rows w.windows w.windows.height 1 some),
+    ) (g.met.S.Screen.twice _ _ _ (fresh_line w.at_line_start)
+    (rows_shown w.windows 1 w.windows.height) [] [] c.start_line.ensures c.show_rows.ensures)

@@ -17,7 +17,8 @@ unfolding shown shown_all
 returns g c = λ units h.
     let line = c.in-Ok.line in
     let name = was_ok (named c.args.memory.now line.name) c.in-Ok.ensures.ok.named_is in
-    let same = same_units units (line_units name.0 line.is_time line.first line.second) (sym h ∙ c.in-Ok.ensures.ok.units_are name.0 name.1) in
+    let same = same_units units (line_units name.0 line.is_time line.first line.second)
+    (sym h ∙ c.in-Ok.ensures.ok.units_are name.0 name.1) in
     let gave = c.give_status.ensures name.0 name.1 in
     let first = rw c.of-extra.ensures at gave.3.1 in
     let second = rw gave.2 at c.in-Ok-put.ensures.ok.3.1 in

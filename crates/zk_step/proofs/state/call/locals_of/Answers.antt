@@ -6,8 +6,11 @@ use Rattle.zk_step.proofs.state.call.locals_of.Goals as goal
 
 pub loop-k-preserved : goal.loop-k-preserved
 loop-k-preserved c =
-    let value : c.argument_or.result ≡ get_or c.args.arguments.now c.loop-k.k (initial_value c.args.memory.now c.loop-k.at) = c.argument_or.ensures ∙ ap (get_or c.args.arguments.now c.loop-k.k) c.initial_value-initial.ensures in
-    let step = argument_step c.args.memory.now c.loop-k.locals.items c.args.arguments.now c.loop-k.at c.args.count c.loop-k.k c.argument_or.result c.loop-k-test.true value in
+    let value : c.argument_or.result ≡ get_or c.args.arguments.now c.loop-k.k
+    (initial_value c.args.memory.now c.loop-k.at) =
+    c.argument_or.ensures ∙ ap (get_or c.args.arguments.now c.loop-k.k) c.initial_value-initial.ensures in
+    let step = argument_step c.args.memory.now c.loop-k.locals.items c.args.arguments.now c.loop-k.at c.args.count
+    c.loop-k.k c.argument_or.result c.loop-k-test.true value in
     record {
       so_far = rw c.push.ensures.items (sym step ∙ c.loop-k.invariant.so_far);
       many = grind (arith, common_steps);
@@ -15,4 +18,6 @@ loop-k-preserved c =
     }
 
 pub returns : goal.returns
-returns c = sym (argument_end c.args.memory.now c.loop-k.locals.items c.args.arguments.now c.loop-k.at c.args.count c.loop-k.k c.loop-k-test.false) ∙ c.loop-k.invariant.so_far
+returns c =
+    sym (argument_end c.args.memory.now c.loop-k.locals.items c.args.arguments.now c.loop-k.at c.args.count
+    c.loop-k.k c.loop-k-test.false) ∙ c.loop-k.invariant.so_far

@@ -10,7 +10,12 @@ pub returns-in_default : goal.returns-in_default
 returns-in_default c =
     let ending = plain_by c.args.ending c.requires c.in_default.not-Return in
     record {
-      ok = λ b. rw (ending, goes_on_next (with_line_start b c.args.game.now) c.args.i.now c.args.values.now c.is_bounded.ensures) (search rules);
+      ok =
+          λ b. rw (
+            ending,
+            goes_on_next (with_line_start b c.args.game.now) c.args.i.now c.args.values.now
+                c.is_bounded.ensures,
+          ) (search rules);
       err = tt;
     }
 

@@ -12,12 +12,16 @@ returns-in-Jump-clause-value c = rw (c.in-Jump.is, c.next_at-in-Jump.ensures) (n
 
 pub returns-in-Call-clause-value : goal.returns-in-Call-clause-value
 unfolding finished
-returns-in-Call-clause-value c = rw (c.in-Call.is, c.next_at-in-Call.ensures) (next_told _ _ _ (rw c.arguments-arguments.ensures.value at c.call_routine.ensures.value))
+returns-in-Call-clause-value c =
+    rw (c.in-Call.is, c.next_at-in-Call.ensures)
+    (next_told _ _ _ (rw c.arguments-arguments.ensures.value at c.call_routine.ensures.value))
 
 pub returns-in-Return-clause-value : goal.returns-in-Return-clause-value
 unfolding finished
-returns-in-Return-clause-value c = rw (c.in-Return.is, c.next_at-in-Return.ensures) (next_told _ _ _ c.return_value.ensures.value)
+returns-in-Return-clause-value c =
+    rw (c.in-Return.is, c.next_at-in-Return.ensures) (next_told _ _ _ c.return_value.ensures.value)
 
 pub returns-in-Throw-clause-value : goal.returns-in-Throw-clause-value
 unfolding finished
-returns-in-Throw-clause-value c = rw (c.in-Throw.is, c.next_at-in-Throw.ensures) (next_told _ _ _ c.throw_value.ensures.value)
+returns-in-Throw-clause-value c =
+    rw (c.in-Throw.is, c.next_at-in-Throw.ensures) (next_told _ _ _ c.throw_value.ensures.value)

@@ -16,8 +16,10 @@ give_back_one-requires c =
     let os = c.args.operands.now in
     let n = c.len-count.result - 1 - c.loop-k.k in
     let next : c.len-count.result - c.loop-k.k ≡ suc n = omega (arith, c.loop-k-test.true) in
-    let here : c.loop-k.game ≡ after_operands (suc n) found os = c.loop-k.invariant.value found c.requires.bounded c.requires.operands ∙ ap (λ (i : ℕ). after_operands i found os) next in
-    let back = gives_back found c.args.game.now os c.args.values.now n c.requires.operands (bounded_fits found.frames c.requires.bounded) (omega (arith, c.len-count.ensures.value, c.loop-k-test.true)) in
+    let here : c.loop-k.game ≡ after_operands (suc n) found os = c.loop-k.invariant.value found c.requires.bounded
+    c.requires.operands ∙ ap (λ (i : ℕ). after_operands i found os) next in
+    let back = gives_back found c.args.game.now os c.args.values.now n c.requires.operands
+    (bounded_fits found.frames c.requires.bounded) (omega (arith, c.len-count.ensures.value, c.loop-k-test.true)) in
     rw (c.as_slice.ensures.value, c.get.ensures, here) back.fits
 
 pub loop-k-preserved : goal.loop-k-preserved
@@ -27,8 +29,10 @@ loop-k-preserved c = record {
       let n = c.len-count.result - 1 - c.loop-k.k in
       let next : c.len-count.result - c.loop-k.k ≡ suc n = omega (arith, c.loop-k-test.true) in
       let left : c.len-count.result - (c.loop-k.k + 1) ≡ n = omega (arith, c.loop-k-test.true) in
-      let here : c.loop-k.game ≡ after_operands (suc n) found os = c.loop-k.invariant.value found bounded taken ∙ ap (λ (i : ℕ). after_operands i found os) next in
-      let back = gives_back found c.args.game.now os c.args.values.now n taken (bounded_fits found.frames bounded) (omega (arith, c.len-count.ensures.value, c.loop-k-test.true)) in
+      let here : c.loop-k.game ≡ after_operands (suc n) found os = c.loop-k.invariant.value found bounded taken
+      ∙ ap (λ (i : ℕ). after_operands i found os) next in
+      let back = gives_back found c.args.game.now os c.args.values.now n taken (bounded_fits found.frames bounded)
+      (omega (arith, c.len-count.ensures.value, c.loop-k-test.true)) in
       let new = rw (c.as_slice.ensures.value, c.get.ensures, here) at c.give_back_one.ensures.value in
       new ∙ back.is ∙ ap (λ (i : ℕ). after_operands i found os) (sym left);
   bounds = c.give_back_one.ensures.bounds ∙ c.loop-k.invariant.bounds;

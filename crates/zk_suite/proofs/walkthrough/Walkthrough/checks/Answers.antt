@@ -15,11 +15,21 @@ loop-cut-preserved c =
     record {
       whole = rw (c.in_ok-commands.ensures.checks, c.in_ok-commands.ensures.commands)
           (checks_on c.loop-cut.commands c.loop-cut.line line rest before
-          ∙ ap (λ (ls : List (List ℕ)). before ++ checks_after c.loop-cut.commands c.loop-cut.line ls) (sym c.in-Some.ensures.value)
+          ∙ ap (λ (ls : List (List ℕ)). before ++ checks_after c.loop-cut.commands c.loop-cut.line ls)
+          (sym c.in-Some.ensures.value)
           ∙ c.loop-cut.invariant.whole);
-      commands = omega (arith, c.in_ok-commands.ensures.commands, count_small line, c.in-Some.ensures.shorter, c.loop-cut.invariant.commands);
+      commands =
+          omega (
+            arith,
+            c.in_ok-commands.ensures.commands,
+            count_small line,
+            c.in-Some.ensures.shorter,
+            c.loop-cut.invariant.commands,
+          );
       line = omega (arith, c.in-Some.ensures.shorter, c.loop-cut.invariant.line);
     }
 
 pub returns : goal.returns
-returns c = checks_end (map check_seen c.loop-cut.checks.items) c.loop-cut.commands c.loop-cut.line (lines c.loop-cut.rest.now) (at_end c.loop-cut.rest.now c.cut_line.result c.in_default.not-Some c.cut_line.ensures.value) ∙ c.loop-cut.invariant.whole
+returns c = checks_end (map check_seen c.loop-cut.checks.items) c.loop-cut.commands c.loop-cut.line
+    (lines c.loop-cut.rest.now) (at_end c.loop-cut.rest.now c.cut_line.result c.in_default.not-Some
+    c.cut_line.ensures.value) ∙ c.loop-cut.invariant.whole

@@ -5,6 +5,8 @@ use Rattle.zk_tables.proofs.arrays.rectangle.check_rectangle.Given as goal
 
 abbrev pub invariant-loop-row : goal.invariant-loop-row
 invariant-loop-row l = record {
-  readable : IsOk (rows_from l.memory l.rectangle l.row (l.rectangle.height - l.row)) → IsOk (rows_of l.memory l.rectangle);
-  fault : (f : Fault) → rows_from l.memory l.rectangle l.row (l.rectangle.height - l.row) ≡ Err f → rows_of l.memory l.rectangle ≡ Err f;
+  readable : IsOk (rows_from l.memory l.rectangle l.row (l.rectangle.height - l.row))
+      → IsOk (rows_of l.memory l.rectangle);
+  fault : (f : Fault) → rows_from l.memory l.rectangle l.row (l.rectangle.height - l.row) ≡ Err f
+      → rows_of l.memory l.rectangle ≡ Err f;
 }

@@ -9,21 +9,28 @@ returns-in_err-put-clause-err g c =
     rw p.1 (λ codes more h.
     let size = read_length c.args.memory.now c.args.table c.args.length codes h in
     let below : c.loop-column.column < length codes = omega arith in
-    let there = read_at c.args.memory.now c.args.table c.args.length c.loop-column.column codes h c.loop-column-test.true in
+    let there = read_at c.args.memory.now c.args.table c.args.length c.loop-column.column codes h
+    c.loop-column-test.true in
     let code : c.unwrap-code.result ≡ get_or codes c.loop-column.column 0 = cc in
-    refused_there g.S.Sink.gave g.S.Sink.refused g.met.S.Sink.late c.args.sink.now c.loop-column.sink c.put.new.self codes more c.loop-column.column c.unwrap-code.result below code (c.loop-column.invariant.so_far codes h) c.in_err-put.ensures.err)
+    refused_there g.S.Sink.gave g.S.Sink.refused g.met.S.Sink.late c.args.sink.now c.loop-column.sink
+    c.put.new.self codes more c.loop-column.column c.unwrap-code.result below code
+    (c.loop-column.invariant.so_far codes h) c.in_err-put.ensures.err)
 
 pub loop-column-preserved : goal.loop-column-preserved
 loop-column-preserved g c = record {
   so_far = λ codes h.
       let size = read_length c.args.memory.now c.args.table c.args.length codes h in
       let below : c.loop-column.column < length codes = omega arith in
-      let there = read_at c.args.memory.now c.args.table c.args.length c.loop-column.column codes h c.loop-column-test.true in
+      let there = read_at c.args.memory.now c.args.table c.args.length c.loop-column.column codes h
+      c.loop-column-test.true in
       let code : c.unwrap-code.result ≡ get_or codes c.loop-column.column 0 = cc in
-      given_more g.S.Sink.gave g.met.S.Sink.twice c.args.sink.now c.loop-column.sink c.put.new.self codes c.loop-column.column c.unwrap-code.result below code (c.loop-column.invariant.so_far codes h) c.in_ok-put.ensures.ok;
+      given_more g.S.Sink.gave g.met.S.Sink.twice c.args.sink.now c.loop-column.sink c.put.new.self codes
+      c.loop-column.column c.unwrap-code.result below code (c.loop-column.invariant.so_far codes h)
+      c.in_ok-put.ensures.ok;
 }
 
 pub returns-clause-ok : goal.returns-clause-ok
 returns-clause-ok g c = λ codes h.
     let size = read_length c.args.memory.now c.args.table c.args.length codes h in
-    given_all (g.S.Sink.gave c.args.sink.now c.loop-column.sink) codes c.loop-column.column (omega arith) (c.loop-column.invariant.so_far codes h)
+    given_all (g.S.Sink.gave c.args.sink.now c.loop-column.sink) codes c.loop-column.column (omega arith)
+    (c.loop-column.invariant.so_far codes h)

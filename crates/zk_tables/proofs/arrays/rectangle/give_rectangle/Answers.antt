@@ -1,7 +1,8 @@
 use Rattle.std.proofs.Common.{◌<◌, ◌≤◌, [], length, get_or, arith}
 use Rattle.std.proofs.lemmas.Result.{err_from_is_err_and}
 use Rattle.std.proofs.lemmas.List.{take_all}
-use Rattle.zk_tables.proofs.Rows.{rows_length, row_is, joined_none, joined_first, refused_first, given_rows, refused_row}
+use Rattle.zk_tables.proofs.Rows.{rows_length, row_is, joined_none, joined_first, refused_first, given_rows}
+use Rattle.zk_tables.proofs.Rows.{refused_row}
 use Rattle.zk_tables.proofs.arrays.rectangle.give_rectangle.Goals as goal
 
 pub returns-then-rectangle-eq0-clause-ok : goal.returns-then-rectangle-eq0-clause-ok
@@ -15,7 +16,8 @@ returns-in_err-give_row-clause-err g c =
     rw p.1 (λ rows h.
     let size = rows_length c.args.memory.now c.args.rectangle rows h in
     let here = row_is c.args.memory.now c.args.rectangle 0 rows h (omega arith) in
-    refused_first (g.S.Sink.refused c.args.sink.now c.give_row.new.sink) rows (omega arith) (λ more. c.in_err-give_row.ensures.ends (get_or rows 0 []) more here))
+    refused_first (g.S.Sink.refused c.args.sink.now c.give_row.new.sink) rows (omega arith)
+    (λ more. c.in_err-give_row.ensures.ends (get_or rows 0 []) more here))
 
 pub loop-row-init : goal.loop-row-init
 loop-row-init g c = record {
@@ -33,7 +35,10 @@ returns-in_err-give_line-clause-err g c =
     let size = rows_length c.args.memory.now c.args.rectangle rows h in
     let here = row_is c.args.memory.now c.args.rectangle c.loop-row.row rows h c.loop-row-test.true in
     let below : c.loop-row.row < length rows = omega arith in
-    refused_row g.S.Sink.gave g.S.Sink.refused g.met.S.Sink.late c.args.sink.now c.loop-row.sink c.give_line.new.sink rows c.loop-row.row c.loop-row.invariant.begun below (c.loop-row.invariant.so_far rows h) (λ more. c.in_err-give_line.ensures.err (get_or rows c.loop-row.row []) more here))
+    refused_row g.S.Sink.gave g.S.Sink.refused g.met.S.Sink.late c.args.sink.now c.loop-row.sink
+    c.give_line.new.sink rows c.loop-row.row c.loop-row.invariant.begun below
+    (c.loop-row.invariant.so_far rows h)
+    (λ more. c.in_err-give_line.ensures.err (get_or rows c.loop-row.row []) more here))
 
 pub loop-row-preserved : goal.loop-row-preserved
 loop-row-preserved g c = record {
@@ -41,7 +46,9 @@ loop-row-preserved g c = record {
       let size = rows_length c.args.memory.now c.args.rectangle rows h in
       let here = row_is c.args.memory.now c.args.rectangle c.loop-row.row rows h c.loop-row-test.true in
       let below : c.loop-row.row < length rows = omega arith in
-      given_rows g.S.Sink.gave g.met.S.Sink.twice c.args.sink.now c.loop-row.sink c.give_line.new.sink rows c.loop-row.row c.loop-row.invariant.begun below (c.loop-row.invariant.so_far rows h) (c.in_ok-give_line.ensures.ok (get_or rows c.loop-row.row []) here);
+      given_rows g.S.Sink.gave g.met.S.Sink.twice c.args.sink.now c.loop-row.sink c.give_line.new.sink rows
+      c.loop-row.row c.loop-row.invariant.begun below (c.loop-row.invariant.so_far rows h)
+      (c.in_ok-give_line.ensures.ok (get_or rows c.loop-row.row []) here);
   begun = omega arith;
 }
 

@@ -8,7 +8,8 @@ returns-then-self-clause-written g c = written_past _ _ _ c.if-self.true
 
 pub returns-in-Err-clause-written : goal.returns-in-Err-clause-written
 returns-in-Err-clause-written g c =
-    screen_failed _ _ _ c.if-self.false refl (ap (λ (b : Bool). b || g.T.Target.failed c.args.self.now.script.now) c.in-Err.ensures.failed) refl refl c.in-Err.ensures.part
+    screen_failed _ _ _ c.if-self.false refl (ap (λ (b : Bool). b || g.T.Target.failed c.args.self.now.script.now)
+    c.in-Err.ensures.failed) refl refl c.in-Err.ensures.part
 
 pub returns-in-Ok-end-clause-written : goal.returns-in-Ok-end-clause-written
 returns-in-Ok-end-clause-written g c =

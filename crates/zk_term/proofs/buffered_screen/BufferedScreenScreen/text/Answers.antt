@@ -6,9 +6,19 @@ pub returns-then-self : goal.returns-then-self
 returns-then-self g c = (refl, refl, written_past _ _ _ c.if-self.true)
 
 pub returns-in-Ok : goal.returns-in-Ok
-returns-in-Ok g c =
-    (refl, refl, screen_written _ _ c.args.c c.if-self.false refl (ap (λ (b : Bool). b || g.T.Target.failed c.args.self.now.script.now) c.in-Ok.ensures.failed) refl refl c.in-Ok.ensures.all)
+returns-in-Ok g c = (
+  refl,
+  refl,
+  screen_written _ _ c.args.c c.if-self.false
+      refl (ap (λ (b : Bool). b || g.T.Target.failed c.args.self.now.script.now) c.in-Ok.ensures.failed)
+      refl refl c.in-Ok.ensures.all,
+)
 
 pub returns-in-Err : goal.returns-in-Err
-returns-in-Err g c =
-    (refl, refl, screen_failed _ _ _ c.if-self.false refl (ap (λ (b : Bool). b || g.T.Target.failed c.args.self.now.script.now) c.in-Err.ensures.failed) refl refl c.in-Err.ensures.part)
+returns-in-Err g c = (
+  refl,
+  refl,
+  screen_failed _ _ _ c.if-self.false
+      refl (ap (λ (b : Bool). b || g.T.Target.failed c.args.self.now.script.now) c.in-Err.ensures.failed)
+      refl refl c.in-Err.ensures.part,
+)

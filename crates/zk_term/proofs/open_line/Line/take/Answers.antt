@@ -5,7 +5,8 @@ use Rattle.zk_term.proofs.Wraps.{line_ends, line_goes_on}
 use Rattle.zk_term.proofs.open_line.Line.take.Goals as goal
 
 pub returns-then-byte-eq10-clause-taken : goal.returns-then-byte-eq10-clause-taken
-returns-then-byte-eq10-clause-taken g c = rw c.if-byte-eq10.true (line_ends g.P.LineWriter.wrote _ _ _ _ c.take_new_line.ensures)
+returns-then-byte-eq10-clause-taken g c =
+    rw c.if-byte-eq10.true (line_ends g.P.LineWriter.wrote _ _ _ _ c.take_new_line.ensures)
 
 pub returns-else-byte-eq10-clause-taken : goal.returns-else-byte-eq10-clause-taken
 returns-else-byte-eq10-clause-taken g c =

@@ -6,7 +6,8 @@ pub returns-then-self-eq0-clause-taken : goal.returns-then-self-eq0-clause-taken
 returns-then-self-eq0-clause-taken g c = record {
   text = _;
   is = space_breaks _ _ c.if-self-eq0.true refl refl refl c.clear.ensures;
-  given = rw c.as_slice.ensures.value at (g.met.P.LineWriter.twice _ _ _ _ _ c.write.ensures c.write-then-self-eq0.ensures);
+  given =
+      rw c.as_slice.ensures.value at (g.met.P.LineWriter.twice _ _ _ _ _ c.write.ensures c.write-then-self-eq0.ensures);
 }
 
 pub returns-clause-taken : goal.returns-clause-taken

@@ -4,7 +4,8 @@ use Rattle.zk_text.proofs.printing.Place.enter.Goals as goal
 
 pub unreachable-requires : goal.unreachable-requires
 unreachable-requires c =
-    no_entry c.args.memory.now c.args.number _ (rw c.header-table.ensures at (sym c.word.ensures ∙ c.in_default.is)) c.requires.means
+    no_entry c.args.memory.now c.args.number _
+    (rw c.header-table.ensures at (sym c.word.ensures ∙ c.in_default.is)) c.requires.means
 
 pub returns : goal.returns
 returns c = record {

@@ -10,14 +10,16 @@ invariant_of-self-in-Ok-Done-At g c =
     let room = rw (← c.self.view_is) at c.requires.room in
     let value = rw (c.in-Ok-Done-At.field-0-is, c.in-Ok-Done-At.field-0-0-is) at c.in-Ok-Done-At.ensures.value in
     let more : c.self.inside.steps + 1 ≤ c.self.inside.limits.steps = omega (arith, room) in
-    sound_moved c.self.inside _ c.args.i _ _ c.self.invariant runs refl free more refl refl refl value c.in-Ok-Done-At.ensures.bounds
+    sound_moved c.self.inside _ c.args.i _ _ c.self.invariant runs refl free more refl refl refl value
+    c.in-Ok-Done-At.ensures.bounds
 
 pub invariant_of-self-in-Ok-Done-Asks : goal.invariant_of-self-in-Ok-Done-Asks
 invariant_of-self-in-Ok-Done-Asks g c =
     let runs = rw (← c.self.view_is) at c.requires.runs in
     let free = rw (← c.self.view_is) at c.requires.free in
     let value = rw (c.in-Ok-Done-Asks.field-0-is, c.in-Ok-Done-Asks.field-0-0-is) at c.in-Ok-Done-Asks.ensures.value in
-    sound_moved c.self.inside _ c.args.i _ _ c.self.invariant runs refl free c.self.invariant.steps refl refl refl value c.in-Ok-Done-Asks.ensures.bounds
+    sound_moved c.self.inside _ c.args.i _ _ c.self.invariant runs refl free c.self.invariant.steps
+    refl refl refl value c.in-Ok-Done-Asks.ensures.bounds
 
 pub meet-requires-clause-fetched : goal.meet-requires-clause-fetched
 meet-requires-clause-fetched g c =
@@ -30,7 +32,8 @@ returns-in-Ok-Done-At-clause-step g c =
     let fetched = rw (← c.self.view_is) at c.requires.fetched in
     let value = rw (c.in-Ok-Done-At.field-0-is, c.in-Ok-Done-At.field-0-0-is) at c.in-Ok-Done-At.ensures.value in
     let text = rw (c.in-Ok-Done-At.field-0-is) at c.in-Ok-Done-At.ensures.text in
-    rw (← c.self.view_is) (made_at g.S.Screen.shows _ _ c.self.inside c.args.i c.args.half.now c.carry_out_part.new.game c.in-Ok-Done-At.pc _ fetched value refl text)
+    rw (← c.self.view_is) (made_at g.S.Screen.shows _ _ c.self.inside c.args.i c.args.half.now
+    c.carry_out_part.new.game c.in-Ok-Done-At.pc _ fetched value refl text)
 
 pub returns-in-Ok-clause-step : goal.returns-in-Ok-clause-step
 returns-in-Ok-clause-step g c =
@@ -39,7 +42,9 @@ returns-in-Ok-clause-step g c =
     let value = rw (c.in-Ok-Done-Asks.field-0-is, c.in-Ok-Done-Asks.field-0-0-is) at c.in-Ok-Done-Asks.ensures.value in
     let quiet = rw (c.in-Ok-Done-Asks.field-0-is, c.in-Ok-Done-Asks.field-0-0-is) at c.in-Ok-Done-Asks.ensures.quiet in
     let text = rw (c.in-Ok-Done-Asks.field-0-is) at c.in-Ok-Done-Asks.ensures.text in
-    rw (← c.self.view_is) (made_asked g.S.Screen.shows g.met.S.Screen.twice _ _ _ c.self.inside _ c.args.i c.args.half.now _ _ c.carry_out_part.new.game c.in-Ok-Done-Asks.request _ _ half fetched value refl quiet text (rw c.in-Ok.is at c.meet.ensures.step) c.meet.ensures.text)
+    rw (← c.self.view_is) (made_asked g.S.Screen.shows g.met.S.Screen.twice _ _ _ c.self.inside _ c.args.i
+    c.args.half.now _ _ c.carry_out_part.new.game c.in-Ok-Done-Asks.request _ _ half fetched value refl quiet
+    text (rw c.in-Ok.is at c.meet.ensures.step) c.meet.ensures.text)
 
 pub returns-in-Err-meet-clause-step : goal.returns-in-Err-meet-clause-step
 returns-in-Err-meet-clause-step g c =
@@ -48,14 +53,18 @@ returns-in-Err-meet-clause-step g c =
     let value = rw (c.in-Ok-Done-Asks.field-0-is, c.in-Ok-Done-Asks.field-0-0-is) at c.in-Ok-Done-Asks.ensures.value in
     let quiet = rw (c.in-Ok-Done-Asks.field-0-is, c.in-Ok-Done-Asks.field-0-0-is) at c.in-Ok-Done-Asks.ensures.quiet in
     let text = rw (c.in-Ok-Done-Asks.field-0-is) at c.in-Ok-Done-Asks.ensures.text in
-    rw (← c.self.view_is) (made_asked g.S.Screen.shows g.met.S.Screen.twice _ _ _ c.self.inside _ c.args.i c.args.half.now _ _ c.carry_out_part.new.game c.in-Ok-Done-Asks.request _ _ half fetched value refl quiet text (rw c.in-Err-meet.is at c.meet.ensures.step) c.meet.ensures.text)
+    rw (← c.self.view_is) (made_asked g.S.Screen.shows g.met.S.Screen.twice _ _ _ c.self.inside _ c.args.i
+    c.args.half.now _ _ c.carry_out_part.new.game c.in-Ok-Done-Asks.request _ _ half fetched value refl quiet
+    text (rw c.in-Err-meet.is at c.meet.ensures.step) c.meet.ensures.text)
 
 pub returns-in-Err-clause-step : goal.returns-in-Err-clause-step
 returns-in-Err-clause-step g c =
     let free = rw (← c.self.view_is) at c.requires.free in
     let fetched = rw (← c.self.view_is) at c.requires.fetched in
     let half = rw (← c.self.view_is) at c.requires.half in
-    rw (← c.self.view_is) (made_err g.S.Screen.shows _ _ c.self.inside _ c.args.i c.args.half.now _ _ c.in-Err.refusal _ half fetched c.in-Err.ensures.value (rw c.stop_at-stop.ensures refl) free c.in-Err.ensures.text)
+    rw (← c.self.view_is) (made_err g.S.Screen.shows _ _ c.self.inside _ c.args.i c.args.half.now _ _
+    c.in-Err.refusal _ half fetched c.in-Err.ensures.value (rw c.stop_at-stop.ensures refl) free
+    c.in-Err.ensures.text)
 
 pub meet-requires-clause-other : goal.meet-requires-clause-other
 meet-requires-clause-other g c = λ saves.

@@ -7,9 +7,15 @@ use Rattle.zk_vm.proofs.machine.Machine.start.Goals as goal
 pub invariant_of-result : goal.invariant_of-result
 invariant_of-result c = record {
   steps = omega arith;
-  bounds = first_bounds c.in_ok-game.game.frames c.args.limits.frames c.args.limits.words (ap (λ (w : GameState). w.frames) c.in_ok-game.ensures);
+  bounds = first_bounds c.in_ok-game.game.frames c.args.limits.frames c.args.limits.words
+      (ap (λ (w : GameState). w.frames) c.in_ok-game.ensures);
   reads = omega arith;
   most = ap (λ (u : UndoStates). u.most) c.in_ok-undo.ensures.value;
-  story = record { are_of = c.in_ok-undo.ensures.are_of c.in_ok-game.game.memory c.in_ok-game.game.frames; memory = ap (λ (w : GameState). w.memory.undo_states) c.in_ok-game.ensures ∙ first_undo c.args.story c.args.limits.undo; cache = c.in_ok-cache.ensures };
+  story = record {
+    are_of = c.in_ok-undo.ensures.are_of c.in_ok-game.game.memory c.in_ok-game.game.frames;
+    memory = ap (λ (w : GameState). w.memory.undo_states) c.in_ok-game.ensures
+        ∙ first_undo c.args.story c.args.limits.undo;
+    cache = c.in_ok-cache.ensures;
+  };
   waits = tt;
 }

@@ -12,7 +12,8 @@ pub returns-in-Err-clause-step : goal.returns-in-Err-clause-step
 returns-in-Err-clause-step g c =
     let free = rw (← c.self.view_is) at c.requires.free in
     let fault = sym c.in-Err.ensures.value in
-    rw (← c.self.view_is) (stepped_fault g.S.Screen.shows _ c.self.inside _ c.in-Err.fault _ fault c.halt.ensures.value free (g.met.S.Screen.nothing _))
+    rw (← c.self.view_is) (stepped_fault g.S.Screen.shows _ c.self.inside _ c.in-Err.fault _ fault
+    c.halt.ensures.value free (g.met.S.Screen.nothing _))
 
 pub keep-requires-clause-inside : goal.keep-requires-clause-inside
 keep-requires-clause-inside g c =

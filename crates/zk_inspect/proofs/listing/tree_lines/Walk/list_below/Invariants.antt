@@ -8,5 +8,6 @@ invariant-loop-turn g l = record {
   room : l.self.count < length l.self.listed;
   count : l.self.count ≡ l.fn.self.count;
   rows : GaveSome (AreRows (IsUpTo l.fn.self.count) (λ o. ⊥)) g.F.FactWriter.wrote l.fn.facts l.facts;
-  top : IsUpTo l.fn.self.count l.root → GaveSome (AreRows (IsUpTo l.fn.self.count) (λ o. o ≡ l.root)) g.F.FactWriter.wrote l.fn.facts l.facts;
+  top : IsUpTo l.fn.self.count l.root → GaveSome (AreRows (IsUpTo l.fn.self.count) (λ o. o ≡ l.root))
+      g.F.FactWriter.wrote l.fn.facts l.facts;
 }

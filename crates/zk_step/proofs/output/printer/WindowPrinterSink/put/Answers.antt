@@ -21,5 +21,9 @@ pub returns-in-TwoSpaces-clause-ok : goal.returns-in-TwoSpaces-clause-ok
 unfolding printed
 returns-in-TwoSpaces-clause-ok c =
     let s = c.args.self.now in
-    let is = rw c.in-TwoSpaces.is at c.of.ensures in
-    (refl, refl, upper_unit s.extra.now s.windows.now _ c.args.unit (32 ∷ 32 ∷ []) is (c.put-in-TwoSpaces-2.ensures ∙ ap (character_printed 32) c.put-in-TwoSpaces.ensures))
+    let is = rw c.in-TwoSpaces.is at c.of.ensures in (
+      refl,
+      refl,
+      upper_unit s.extra.now s.windows.now _ c.args.unit (32 ∷ 32 ∷ []) is
+          (c.put-in-TwoSpaces-2.ensures ∙ ap (character_printed 32) c.put-in-TwoSpaces.ensures),
+    )

@@ -7,10 +7,13 @@ pub returns-then-is_empty : goal.returns-then-is_empty
 returns-then-is_empty c =
     let s = c.self.inside in
     let none : length s.below.items ≡ 0 = search rules in
-    rw (← c.self.view_is) (ap (λ (ts : List OpenTable). record { screen = s.screen; tables = ts }) (last_closed s.newest s.below.items none))
+    rw (← c.self.view_is) (ap (λ (ts : List OpenTable). record { screen = s.screen; tables = ts })
+    (last_closed s.newest s.below.items none))
 
 pub returns-else-is_empty : goal.returns-else-is_empty
 returns-else-is_empty c =
     let s = c.self.inside in
     let some : 0 < length s.below.items = search rules in
-    rw (← c.self.view_is, c.remove.ensures.items, c.remove.ensures.value) (ap (λ (ts : List OpenTable). record { screen = s.screen; tables = ts }) (newest_closed s.newest s.below.items c.remove.result c.self.invariant some))
+    rw (← c.self.view_is, c.remove.ensures.items, c.remove.ensures.value)
+    (ap (λ (ts : List OpenTable). record { screen = s.screen; tables = ts })
+    (newest_closed s.newest s.below.items c.remove.result c.self.invariant some))

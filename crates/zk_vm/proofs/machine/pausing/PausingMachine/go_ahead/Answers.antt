@@ -12,8 +12,14 @@ returns-clause-on g c =
     let to = rw (← c.self.view_is) at c.requires.to in
     let on : IsOn c.self.inside.machine = record { runs = runs; free = free; silent = silent } in
     let limits = ap (λ (l : Limits). l.steps) c.go_ahead.ensures.limits in
-    let few : c.go_ahead.new.self.state.steps ≤ c.go_ahead.new.self.limits.steps = omega (arith, c.in-Ok.ensures.few, limits, to) in
-    rw (← c.self.view_is, c.in-None.is) (went_ahead g.S.Screen.shows g.met.S.Screen.nothing g.met.S.Screen.twice _ _ c.self.inside.machine c.go_ahead.new.self on c.is_told.ensures c.in-Ok.ensures.ahead few)
+    let few : c.go_ahead.new.self.state.steps ≤ c.go_ahead.new.self.limits.steps = omega (
+      arith,
+      c.in-Ok.ensures.few,
+      limits,
+      to,
+    ) in
+    rw (← c.self.view_is, c.in-None.is) (went_ahead g.S.Screen.shows g.met.S.Screen.nothing g.met.S.Screen.twice _
+    _ c.self.inside.machine c.go_ahead.new.self on c.is_told.ensures c.in-Ok.ensures.ahead few)
 
 pub returns-in-Err-clause-ends : goal.returns-in-Err-clause-ends
 returns-in-Err-clause-ends g c =
@@ -21,7 +27,10 @@ returns-in-Err-clause-ends g c =
     let free = rw (← c.self.view_is) at c.requires.free in
     let silent = rw (← c.self.view_is) at c.requires.silent in
     let on : IsOn c.self.inside.machine = record { runs = runs; free = free; silent = silent } in
-    rw (← c.self.view_is, c.in-None.is) (stop_ahead g.S.Screen.shows g.met.S.Screen.nothing g.met.S.Screen.twice g.S.Screen.full g.S.Screen.failed 0 _ _ c.self.inside.machine c.go_ahead.new.self c.in-Err.halt on c.is_told.ensures c.is_told-in-Err.ensures c.requires.works c.in-Err.ensures.ahead)
+    rw (← c.self.view_is, c.in-None.is) (stop_ahead g.S.Screen.shows g.met.S.Screen.nothing g.met.S.Screen.twice
+    g.S.Screen.full g.S.Screen.failed 0 _ _ c.self.inside.machine c.go_ahead.new.self c.in-Err.halt on
+    c.is_told.ensures c.is_told-in-Err.ensures c.requires.works c.in-Err.ensures.ahead)
 
 pub returns-in_default-clause-on : goal.returns-in_default-clause-on
-returns-in_default-clause-on g c = went_none g.S.Screen.shows g.met.S.Screen.nothing g.met.S.Screen.twice _ _ (record { runs = c.requires.runs; free = c.requires.free; silent = c.requires.silent })
+returns-in_default-clause-on g c = went_none g.S.Screen.shows g.met.S.Screen.nothing g.met.S.Screen.twice _ _
+    (record { runs = c.requires.runs; free = c.requires.free; silent = c.requires.silent })

@@ -1,0 +1,4 @@
+pub mod CleanByExample
+pub mod ExtentsByExample
+pub mod Opened
+pub mod ReachedByExample

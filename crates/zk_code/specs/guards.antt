@@ -1,0 +1,4 @@
+pub mod CleanExamples
+pub mod Examples
+pub mod ExtentExamples
+pub mod ReachExamples

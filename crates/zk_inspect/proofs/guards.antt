@@ -1,0 +1,2 @@
+pub mod NothingNamed
+pub mod Opened

@@ -1,0 +1,3 @@
+pub mod Grown
+pub mod SameStates
+pub mod Unique

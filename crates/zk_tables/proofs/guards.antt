@@ -1,0 +1,11 @@
+pub mod Changes
+pub mod DecidedLaw
+pub mod Lasting
+pub mod LinkLaw
+pub mod MadeLaw
+pub mod OrderLaw
+pub mod Paths
+pub mod PutInLaw
+pub mod RemovalLaw
+pub mod TakenLaw
+pub mod TokenLaw

@@ -1,0 +1,3 @@
+pub mod ArrayExamples
+pub mod Examples
+pub mod TreeLaws
