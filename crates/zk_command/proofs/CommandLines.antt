@@ -1,10 +1,12 @@
 -- What clap finds in the arguments of the command line.
-use Rattle.std.proofs.Common.{◌≡◌, ◌∙◌, ◌<◌, ◌≤◌, ◌⊎◌, inl, inr, ℕ, zero, suc, List, [], ◌∷◌, length, take, get_or}
+use Rattle.std.proofs.Common.{◌≡◌, ◌∙◌, ◌<◌, ◌≤◌, ◌⊎◌, inl, inr, ℕ, zero, suc, List, [], ◌∷◌, ◌++◌, length, take}
+use Rattle.std.proofs.Common.{cond, filter, get_or}
 use Rattle.std.proofs.Common.{Option, Some, None, IfNone, IfSome, codes, refl, sym, ap, arith, subst, Bool, true, false}
 use Rattle.std.specs.Prelude.{SomeIff, IsSomeAnd, map, option_map, unwrap_or}
 use Rattle.std.specs.Str.{bytes_eq}
 use Rattle.std.proofs.lemmas.Slice.Eq.{bytes_eq-Decides}
-use Rattle.clap.specs.Words.{App, HasMatchesOf, Row, Text, all_of, first_of, is_simple, kind_of, is_simple_and_free}
+use Rattle.clap.specs.Words.{App, HasMatchesOf, Row, Rule, Text, all_of, first_of, is_simple, kind_of}
+use Rattle.clap.specs.Words.{is_simple_and_free}
 use Rattle.clap.specs.Words.{subcommand_name_of, subcommand_of, with_rule, with_subcommand}
 use Rattle.clap.proofs.OnLiterals.{clap_on_literals}
 use Rattle.clap.specs.declared.ArgMatches.{ArgMatches}
@@ -13,14 +15,14 @@ use Rattle.clap.specs.declared.error.ErrorKind.TheVariants.{OutOfMemory}
 use Rattle.zk_command.specs.declared.settings.Amount.{Amount}
 use Rattle.zk_command.specs.declared.settings.PlayOptions.{PlayOptions}
 use Rattle.zk_command.specs.CommandLine.{Asks, IsAmount, IsNumberIn, IsOtherName, IsRefusedWith, MaySayAmount, MetSays}
-use Rattle.zk_command.specs.CommandLine.{Says, SaysListing, SaysOptions, SaysNumber, SaysStory, command_line, flag_said}
+use Rattle.zk_command.specs.CommandLine.{Says, SaysAsked, SaysOptions, SaysNumber, SaysStory, command_line, flag_said}
 use Rattle.zk_command.specs.CommandLine.{number_in, option_rule, table_command, usage_status, with_rules, with_tables}
 use Rattle.zk_command.specs.declared.choice.Choice.{Choice}
 use Rattle.zk_command.specs.declared.options.CommandOption.{CommandOption}
 use Rattle.zk_command.specs.declared.options.CommandTable.{CommandTable}
 use Rattle.zk_command.specs.declared.choice.Choice.TheVariants.{Play, Show, Test, Unpack}
-use Rattle.zk_command.specs.declared.listing.Listing.{Listing}
-use Rattle.zk_command.specs.declared.listing.Listing.TheVariants.{Info, Code, Findings}
+use Rattle.zk_command.specs.declared.settings.Asked.{Asked}
+use Rattle.zk_command.specs.declared.settings.Asked.TheVariants.{Sections, Code, Findings}
 
 -- the command line is simple in clap's sense
 pub command_line_is_simple : is_simple command_line ≡ true
@@ -32,13 +34,24 @@ pub command_line_is_free : is_simple_and_free command_line ≡ true
 unfolding clap_on_literals
 command_line_is_free = refl
 
--- one option more
-pub rules_more : (a : App) (os : List CommandOption) (i : ℕ) (d : CommandOption) → i < length os
-    → with_rules a (map option_rule (take (suc i) os)) ≡ with_rule (with_rules a (map option_rule (take i os)))
-    (option_rule (get_or os i d))
-rules_more a [] i d h = absurd (omega arith)
-rules_more a (o ∷ os) zero d h = refl
-rules_more a (o ∷ os) (suc i) d h = rules_more (with_rule a (option_rule o)) os i d (omega arith)
+-- one rule more
+pub rules_more : {O : Type 0} (rule : O → Rule) (a : App) (os : List O) (i : ℕ) (d : O) → i < length os
+    → with_rules a (map rule (take (suc i) os)) ≡ with_rule (with_rules a (map rule (take i os))) (rule (get_or os i d))
+rules_more {O} rule a [] i d h = absurd (omega arith)
+rules_more {O} rule a (o ∷ os) zero d h = refl
+rules_more {O} rule a (o ∷ os) (suc i) d h = rules_more rule (with_rule a (rule o)) os i d (omega arith)
+
+-- one element more that is looked at
+pub filter_more : {X : Type 0} (test : X → Bool) (xs : List X) (i : ℕ) (d : X) → i < length xs
+    → filter test (take (suc i) xs)
+    ≡ filter test (take i xs) ++ cond (test (get_or xs i d)) (get_or xs i d ∷ []) []
+filter_more {X} test [] i d h = absurd (omega arith)
+filter_more {X} test (x ∷ xs) zero d h = refl
+filter_more {X} test (x ∷ xs) (suc i) d h = kept (test x) _ _ _ (filter_more test xs i d (omega arith))
+  where
+    kept : (b : Bool) (s t u : List X) → s ≡ t ++ u → cond b (x ∷ s) s ≡ cond b (x ∷ t) t ++ u
+    kept true s t u k = ap (λ (ys : List X). x ∷ ys) k
+    kept false s t u k = k
 
 -- one command more
 pub tables_more : (a : App) (ts : List CommandTable) (i : ℕ) (d : CommandTable) → i < length ts
@@ -157,18 +170,18 @@ other_name name known test e =
     let d = bytes_eq-Decides name known in let both : false ≡ true = sym test ∙ d.1 e in absurd cc
 
 -- `play`, `test` and `unpack` list nothing
-no_listing : (name : Text) (rows : List Row) (listing : Listing) → bytes_eq name (codes "info") ≡ false
-    → bytes_eq name (codes "disasm") ≡ false → bytes_eq name (codes "check") ≡ false → SaysListing name rows listing → ⊥
-no_listing name rows (Info sections) i d k h = other_name name (codes "info") i h.0
-no_listing name rows (Code c) i d k h = other_name name (codes "disasm") d h.0
-no_listing name rows Findings i d k h = other_name name (codes "check") k h
+no_asked : (name : Text) (rows : List Row) (asked : Asked) → bytes_eq name (codes "info") ≡ false
+    → bytes_eq name (codes "disasm") ≡ false → bytes_eq name (codes "check") ≡ false → SaysAsked name rows asked → ⊥
+no_asked name rows (Sections sections) i d k h = other_name name (codes "info") i h.0
+no_asked name rows (Code all) i d k h = other_name name (codes "disasm") d h.0
+no_asked name rows Findings i d k h = other_name name (codes "check") k h
 
 -- without a path or options `play` asks for nothing
 pub no_play_said : (rows : List Row) → ((path : List ℕ) (o : PlayOptions) → SaysStory rows path
     → SaysOptions rows o → ⊥) → (c : Choice) → Says (codes "play") rows c → ⊥
 no_play_said rows none (Play story options) h = none story.now options h.1 h.2
-no_play_said rows none (Show stories roots options listing) h =
-    no_listing (codes "play") rows listing refl refl refl h.2
+no_play_said rows none (Show stories roots options asked) h =
+    no_asked (codes "play") rows asked refl refl refl h.2
 no_play_said rows none (Test paths story bless) h = other_name (codes "play") (codes "test") refl h.0
 no_play_said rows none (Unpack file out) h = other_name (codes "play") (codes "unpack") refl h.0
 
@@ -176,8 +189,8 @@ no_play_said rows none (Unpack file out) h = other_name (codes "play") (codes "u
 pub no_unpack_said : (rows : List Row) → ((file out : List ℕ) → first_of (codes "FILE") rows ≡ Some file
     → first_of (codes "OUT") rows ≡ Some out → ⊥) → (c : Choice) → Says (codes "unpack") rows c → ⊥
 no_unpack_said rows none (Play story options) h = other_name (codes "unpack") (codes "play") refl h.0
-no_unpack_said rows none (Show stories roots options listing) h =
-    no_listing (codes "unpack") rows listing refl refl refl h.2
+no_unpack_said rows none (Show stories roots options asked) h =
+    no_asked (codes "unpack") rows asked refl refl refl h.2
 no_unpack_said rows none (Test paths story bless) h = other_name (codes "unpack") (codes "test") refl h.0
 no_unpack_said rows none (Unpack file out) h = none file.now out.now h.1 h.2
 
@@ -193,8 +206,8 @@ no_paths rows paths told is none some same =
 pub no_test_said : (rows : List Row) (paths : List Text) → paths ≡ unwrap_or (all_of (codes "STORY") rows) []
     → length paths ≡ 0 → (c : Choice) → Says (codes "test") rows c → ⊥
 no_test_said rows paths is none (Play story options) h = other_name (codes "test") (codes "play") refl h.0
-no_test_said rows paths is none (Show stories roots options listing) h =
-    no_listing (codes "test") rows listing refl refl refl h.2
+no_test_said rows paths is none (Show stories roots options asked) h =
+    no_asked (codes "test") rows asked refl refl refl h.2
 no_test_said rows paths is none (Test told story bless) h = no_paths rows paths _ is none h.1.0 h.1.1
 no_test_said rows paths is none (Unpack file out) h = other_name (codes "test") (codes "unpack") refl h.0
 
@@ -202,19 +215,19 @@ no_test_said rows paths is none (Unpack file out) h = other_name (codes "test") 
 pub no_stories : (name : Text) (rows : List Row) (paths : List Text) → IsOtherName name
     → paths ≡ unwrap_or (all_of (codes "STORY") rows) [] → length paths ≡ 0 → (c : Choice) → Says name rows c → ⊥
 no_stories name rows paths other is none (Play story options) h = other_name name (codes "play") other.play h.0
-no_stories name rows paths other is none (Show stories roots options listing) h =
+no_stories name rows paths other is none (Show stories roots options asked) h =
     no_paths rows paths _ is none h.0.0 h.0.1
 no_stories name rows paths other is none (Test told story bless) h = other_name name (codes "test") other.test h.0
 no_stories name rows paths other is none (Unpack file out) h = other_name name (codes "unpack") other.unpack h.0
 
 pub no_command : (name : Text) (rows : List Row) → IsOtherName name
-    → ((l : Listing) → SaysListing name rows l → ⊥) → (c : Choice) → Says name rows c → ⊥
+    → ((a : Asked) → SaysAsked name rows a → ⊥) → (c : Choice) → Says name rows c → ⊥
 no_command name rows other none (Play story options) h = other_name name (codes "play") other.play h.0
-no_command name rows other none (Show stories roots options listing) h = none listing h.2
+no_command name rows other none (Show stories roots options asked) h = none asked h.2
 no_command name rows other none (Test told story bless) h = other_name name (codes "test") other.test h.0
 no_command name rows other none (Unpack file out) h = other_name name (codes "unpack") other.unpack h.0
 
-pub no_listing_said : (name : Text) (rows : List Row) → bytes_eq name (codes "info") ≡ false
-    → bytes_eq name (codes "disasm") ≡ false → bytes_eq name (codes "check") ≡ false → (l : Listing)
-    → SaysListing name rows l → ⊥
-no_listing_said name rows i d k l h = no_listing name rows l i d k h
+pub no_asked_said : (name : Text) (rows : List Row) → bytes_eq name (codes "info") ≡ false
+    → bytes_eq name (codes "disasm") ≡ false → bytes_eq name (codes "check") ≡ false → (a : Asked)
+    → SaysAsked name rows a → ⊥
+no_asked_said name rows i d k a h = no_asked name rows a i d k h

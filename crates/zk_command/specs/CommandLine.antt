@@ -1,5 +1,5 @@
 -- What the arguments of the command line ask for, by clap's function of the arguments for a simple command.
-use Rattle.std.specs.Prelude.{◌≡◌, ◌⊎◌, ◌≤◌, ◌||◌, ℕ, Bool, true, false, not, List, [], ◌∷◌, Option, Some, None, codes}
+use Rattle.std.specs.Prelude.{◌≡◌, ◌⊎◌, ◌≤◌, ℕ, Bool, true, false, List, [], ◌∷◌, Option, Some, None, codes, filter}
 use Rattle.std.specs.Prelude.{length, map, option_map, unwrap_or, if◌then◌else◌, IsSomeAnd}
 use Rattle.std.specs.Str.Parse.{IsNumeral, digits_value, without_leading_plus}
 use Rattle.clap.specs.Words.{App, HasKind, Row, Rule, Text, all_of, fault_of, first_of, kind_of, new_app, new_rule}
@@ -30,10 +30,11 @@ use Rattle.zk_command.specs.declared.options.CommandOption.TheVariants.{Story, S
 use Rattle.zk_command.specs.declared.options.CommandTable.{CommandTable}
 use Rattle.zk_command.specs.declared.options.NumberOption.{NumberOption}
 use Rattle.zk_command.specs.declared.choice.Choice.TheVariants.{Play, Show, Test, Unpack}
-use Rattle.zk_command.specs.declared.listing.Listing.{Listing}
-use Rattle.zk_command.specs.declared.listing.Listing.TheVariants.{Info, Code, Findings}
-use Rattle.zk_command.specs.declared.listing.CodeListing.{CodeListing}
-use Rattle.zk_command.specs.declared.listing.Sections.{Sections}
+use Rattle.zk_command.specs.declared.settings.Asked.{Asked}
+use Rattle.zk_command.specs.declared.settings.Asked.TheVariants.{Sections, Code, Findings}
+use Rattle.zk_inspect.specs.Sections.{all_sections, section_name}
+use Rattle.zk_inspect.specs.declared.section.Section.{Section}
+use Rattle.zk_inspect.specs.declared.section.Section.TheVariants.{Header}
 
 -- the option `--name`
 abbrev pub named_option : Text → Rule
@@ -91,6 +92,10 @@ option_rule Story = story_argument
 option_rule Stories = story_arguments
 option_rule Walkthroughs = path_arguments
 
+-- the flag of a section
+abbrev pub section_rule : Section → Rule
+section_rule s = flag (section_name s)
+
 -- a command with rules, one after another
 abbrev pub with_rules : App → List Rule → App
 with_rules a [] = a
@@ -98,7 +103,8 @@ with_rules a (r ∷ rs) = with_rules (with_rule a r) rs
 
 -- the command that a row of the program's table says
 abbrev pub table_command : CommandTable → App
-table_command t = with_rules (new_app t.name.now) (map option_rule t.options.now)
+table_command t =
+    with_rules (with_rules (new_app t.name.now) (map section_rule t.sections.now)) (map option_rule t.options.now)
 
 -- a command line with commands, one after another
 abbrev pub with_tables : App → List CommandTable → App
@@ -271,37 +277,18 @@ pub record SaysOptions (rows : List Row) (o : PlayOptions) : Type 0 where
   pub calls : o.calls ≡ flag_said (first_of (codes "calls") rows)
   pub cover : SaysText (λ s. s.now) rows (codes "cover") o.cover
 
--- the sections that the flags of `info` name
-abbrev pub sections_named : List Row → Sections
-sections_named rows =
-    let given = λ (name : Text). flag_said (first_of name rows) in
-    record {
-      header = given (codes "header");
-      map = given (codes "map");
-      abbreviations = given (codes "abbreviations");
-      dictionary = given (codes "dictionary");
-      objects = given (codes "objects");
-      tree = given (codes "tree");
-      ifid = given (codes "ifid");
-      strings = given (codes "strings");
-      properties = given (codes "properties");
-      globals = given (codes "globals");
-      alphabets = given (codes "alphabets");
-      extension = given (codes "extension");
-    }
+-- the sections that flags name, in the order in which they are shown
+abbrev pub sections_named : List Row → List Section
+sections_named rows = filter (λ s. flag_said (first_of (section_name s) rows)) all_sections
 
--- whether a section but the header is among some
-abbrev pub has_others : Sections → Bool
-has_others s =
-    s.map || (s.abbreviations ||
-    (s.dictionary ||
-    (s.objects ||
-    (s.tree || (s.ifid || (s.strings || (s.properties || (s.globals || (s.alphabets || s.extension)))))))))
+-- some sections, or the header where there are none
+abbrev pub or_header : List Section → List Section
+or_header [] = Header ∷ []
+or_header (s ∷ ss) = s ∷ ss
 
--- the sections that they ask for: the header where none is named
-abbrev pub sections_said : List Row → Sections
-sections_said rows =
-    record (sections_named rows) { header = (sections_named rows).header || not (has_others (sections_named rows)) }
+-- the sections that are asked for
+abbrev pub sections_said : List Row → List Section
+sections_said rows = or_header (sections_named rows)
 
 -- the path of a story
 abbrev pub SaysStory : List Row → Text → Type 0
@@ -311,19 +298,11 @@ SaysStory rows path = first_of (codes "STORY") rows ≡ Some path
 abbrev pub SaysStories : List Row → List Text → Type 0
 SaysStories rows paths = (1 ≤ length paths) × (paths ≡ unwrap_or (all_of (codes "STORY") rows) [])
 
--- the code that `disasm` lists, by `--all` and `--notes`; where it is looked for beside the first instruction is found
--- later
-pub record IsCodeSaid (rows : List Row) (c : CodeListing) : Type 0 where
-  pub all : c.all ≡ flag_said (first_of (codes "all") rows)
-  pub notes : c.notes ≡ flag_said (first_of (codes "notes") rows)
-  pub addresses : c.addresses.now ≡ []
-  pub routines : c.routines.now ≡ []
-
 -- what clap found for a command says what is listed
-abbrev pub SaysListing : Text → List Row → Listing → Type 0
-SaysListing name rows (Info sections) = (name ≡ codes "info") × (sections ≡ sections_said rows)
-SaysListing name rows (Code c) = (name ≡ codes "disasm") × IsCodeSaid rows c
-SaysListing name rows Findings = name ≡ codes "check"
+abbrev pub SaysAsked : Text → List Row → Asked → Type 0
+SaysAsked name rows (Sections sections) = (name ≡ codes "info") × (sections.items ≡ sections_said rows)
+SaysAsked name rows (Code all) = (name ≡ codes "disasm") × (all ≡ flag_said (first_of (codes "all") rows))
+SaysAsked name rows Findings = name ≡ codes "check"
 
 -- the texts that clap found for an option or a path that may be given several times
 abbrev pub AreTexts : {S : Type 0} → (S → Text) → List Row → Text → List S → Type 0
@@ -335,9 +314,10 @@ pub record SaysRoots (rows : List Row) (r : Roots) : Type 0 where
   pub routines : AreTexts (λ s. s.now) rows (codes "routine") r.routines.items
   pub cover : SaysText (λ s. s.now) rows (codes "cover") r.cover
 
--- the paths and the rest that a command names
+-- the paths, the sections and the rest that a command names
 pub record IsNamed (rows : List Row) (n : NamedByCommand) : Type 0 where
   pub paths : AreTexts (λ s. s.now) rows (codes "STORY") n.paths.items
+  pub sections : n.sections.items ≡ sections_said rows
   pub roots : SaysRoots rows n.roots
 
 -- the form that the flags of a command ask for: that of `--json` where both are given
@@ -361,8 +341,8 @@ show_said rows = record {
 -- what clap found for a command says a choice
 abbrev pub Says : Text → List Row → Choice → Type 0
 Says name rows (Play story options) = (name ≡ codes "play") × SaysStory rows story.now × SaysOptions rows options
-Says name rows (Show stories roots options listing) =
-    SaysStories rows (map (λ s. s.now) stories.items) × SaysRoots rows roots × SaysListing name rows listing
+Says name rows (Show stories roots options asked) =
+    SaysStories rows (map (λ s. s.now) stories.items) × SaysRoots rows roots × SaysAsked name rows asked
     × (options ≡ show_said rows)
 Says name rows (Test paths story bless) =
     (name ≡ codes "test") × SaysStories rows (map (λ s. s.now) paths.items) × SaysText

@@ -1,11 +1,1 @@
 pub mod CommandLine
-pub mod LastLine
-pub mod Playing
-pub mod Status
-pub mod Headings
-pub mod Listing
-pub mod Verdict
-pub mod SaveFiles
-pub mod ScriptFiles
-pub mod NoFile
-pub mod Records

@@ -9,26 +9,26 @@ ghost use Rattle.clap.specs.declared.Command.TheViews.{out-Command as fields_of}
 ghost use Rattle.zk_vm.specs.Bounds.{AreInRange};
 ghost use Rattle.zk_vm.specs.declared.limits.Limits.{Limits};
 ghost use Rattle.zk_command.specs.declared.choice.Choice.{Choice};
-ghost use Rattle.zk_command.specs.declared.listing.Listing.{Listing};
+ghost use Rattle.zk_command.specs.declared.settings.Asked.{Asked};
 ghost use Rattle.zk_command.specs.declared.settings.Amount.{Amount};
 ghost use Rattle.zk_command.specs.declared.settings.PlayOptions.{PlayOptions};
-ghost use Rattle.zk_command.specs.CommandLine.{Asks, HasLimits, IsAmount, IsNumberIn, IsOtherName, IsRefusedWith};
-ghost use Rattle.zk_command.specs.CommandLine.{MaySayAmount, MetSays, IsCodeSaid, IsNamed, AreTexts, SaysRoots, Says};
-ghost use Rattle.zk_command.specs.CommandLine.{SaysLimits, SaysListing, SaysNumber, SaysOptions, SaysSeed, SaysStory};
-ghost use Rattle.zk_command.specs.CommandLine.{command_line, file_argument, flag_said, form_said, has_others};
-ghost use Rattle.zk_command.specs.CommandLine.{sections_named, named_option, number_in, number_rule, option_rule};
-ghost use Rattle.zk_command.specs.CommandLine.{sections_said, show_said, story_argument, table_command, usage_status};
-ghost use Rattle.zk_command.specs.CommandLine.{view_said, with_tables, word_of};
+ghost use Rattle.zk_command.specs.CommandLine.{AreTexts, Asks, HasLimits, IsAmount, IsNamed, IsNumberIn, IsOtherName};
+ghost use Rattle.zk_command.specs.CommandLine.{IsRefusedWith, MaySayAmount, MetSays, Says, SaysAsked, SaysLimits};
+ghost use Rattle.zk_command.specs.CommandLine.{SaysNumber, SaysOptions, SaysRoots, SaysSeed, SaysStory, command_line};
+ghost use Rattle.zk_command.specs.CommandLine.{file_argument, flag_said, form_said, named_option, number_in};
+ghost use Rattle.zk_command.specs.CommandLine.{number_rule, option_rule, section_rule, sections_named, sections_said};
+ghost use Rattle.zk_command.specs.CommandLine.{show_said, story_argument, table_command, usage_status, view_said};
+ghost use Rattle.zk_command.specs.CommandLine.{with_rules, with_tables, word_of};
 
-use crate::listing::{CodeListing, Listing, Sections};
 use crate::options::{
     COMMANDS, CommandOption, CommandTable, FRAMES, NumberOption, PAGE, PLAY, SEED, STEPS, UNDO,
     WIDTH, WORDS,
 };
-use crate::settings::{Amount, Form, PlayOptions, Roots, ShowOptions};
+use crate::settings::{Amount, Asked, Form, PlayOptions, Roots, ShowOptions};
 use clap::error::ErrorKind;
 use clap::{Arg, ArgAction, ArgMatches, Command, Error};
 use std::alloc::{AllocError, Global};
+use zk_inspect::section::{SECTIONS, Section};
 use zk_step::state::game_state::View;
 use zk_vm::limits::Limits;
 
@@ -45,7 +45,7 @@ pub enum Choice<'a> {
         stories: Vec<&'a str>,
         roots: Roots<'a>,
         options: ShowOptions,
-        listing: Listing<'static>,
+        asked: Asked,
     },
     /// To play walkthroughs, or those in folders, one path at least, and to compare what they show with transcripts, or
     /// to write these. `story` is that of a walkthrough which names none.
@@ -140,14 +140,41 @@ fn with_arg<'a>(command: Command<'a>, arg: Arg<'a>) -> Result<Command<'a>, Alloc
     command.arg(arg)
 }
 
+/// The flag of a section, as clap has it.
+fn section_option_of<'a>(alloc: Global, section: Section) -> Arg<'a>
+    ensures rule { rule_of result ≡ section_rule section }
+    ensures local { result.global ≡ false }
+{
+    option_named(alloc, section.name(), section.help()).action(ArgAction::SetTrue)
+}
+
+/// A command with the flags of sections as well.
+fn with_sections<'a>(
+    alloc: Global,
+    command: Command<'a>,
+    sections: &[Section],
+) -> Result<Command<'a>, AllocError>
+    requires { (fields_of command).has_globals ≡ false }
+    ensures shape { IfOk result
+        (λ c. app_of c ≡ with_rules (app_of command.entry) (map section_rule sections.now)) }
+    ensures local { IfOk result (λ c. (fields_of c).has_globals ≡ false) }
+{
+    let mut command = command;
+    for section in sections {
+        command = with_arg(command, section_option_of(alloc, *section))?;
+    }
+    Ok(command)
+}
+
 /// A command with its options and paths.
 fn command_of<'a>(alloc: Global, table: CommandTable) -> Result<Command<'a>, AllocError>
     ensures shape { IfOk result (λ c. app_of c ≡ table_command table) }
     ensures local { IfOk result (λ c. (fields_of c).has_globals ≡ false) }
 {
-    let mut command = Command::new(alloc, table.name)
+    let command = Command::new(alloc, table.name)
         .about(table.about)
         .after_help(table.example);
+    let mut command = with_sections(alloc, command, table.sections)?;
     for option in table.options {
         command = with_arg(command, option_of(alloc, *option))?;
     }
@@ -476,78 +503,21 @@ fn choose_unpack<'a>(command: &mut Command<'_>, found: &ArgMatches<'a>) -> Resul
     Ok(Choice::Unpack { file, out })
 }
 
-/// Whether a section of `info` is asked for.
-fn has_others(asked: Sections) -> bool
-    ensures { result ≡ has_others asked }
-{
-    asked.map
-        || asked.abbreviations
-        || asked.dictionary
-        || asked.objects
-        || asked.tree
-        || asked.ifid
-        || asked.strings
-        || asked.properties
-        || asked.globals
-        || asked.alphabets
-        || asked.extension
-}
-
-/// The sections that the options of `info` name.
-fn sections_named(info: &ArgMatches<'_>) -> Sections
-    ensures { result ≡ sections_named (rows_of (found_of info.now)) }
-{
-    Sections {
-        header: has_flag(info, "header"),
-        map: has_flag(info, "map"),
-        abbreviations: has_flag(info, "abbreviations"),
-        dictionary: has_flag(info, "dictionary"),
-        objects: has_flag(info, "objects"),
-        tree: has_flag(info, "tree"),
-        ifid: has_flag(info, "ifid"),
-        strings: has_flag(info, "strings"),
-        properties: has_flag(info, "properties"),
-        globals: has_flag(info, "globals"),
-        alphabets: has_flag(info, "alphabets"),
-        extension: has_flag(info, "extension"),
-    }
-}
-
-/// The sections that the options of `info` ask for.
-fn sections_of(info: &ArgMatches<'_>) -> Sections
-    ensures { result ≡ sections_said (rows_of (found_of info.now)) }
-{
-    let named = sections_named(info);
-    Sections {
-        header: named.header || !has_others(named),
-        ..named
-    }
-}
-
-/// Which code is listed.
-fn code_listing_of(found: &ArgMatches<'_>) -> CodeListing<'static>
-    ensures { IsCodeSaid (rows_of (found_of found.now)) result }
-{
-    CodeListing {
-        all: has_flag(found, "all"),
-        notes: has_flag(found, "notes"),
-        addresses: &[],
-        routines: &[],
-    }
-}
-
-/// What a command lists, by its name and what clap found for it.
-fn listing_of(name: &str, found: &ArgMatches<'_>) -> Option<Listing<'static>>
-    ensures says { IfSome result (λ l. SaysListing name.now (rows_of (found_of found.now)) l) }
+/// What a command lists, by its name, what clap found for it, and the sections that are asked for.
+fn asked_of(name: &str, found: &ArgMatches<'_>, sections: Vec<Section>) -> Option<Asked>
+    requires { sections.items ≡ sections_said (rows_of (found_of found.now)) }
+    ensures says { IfSome result (λ a. SaysAsked name.now (rows_of (found_of found.now)) a) }
     ensures says_none { IfNone result
-        ((l : Listing) → SaysListing name.now (rows_of (found_of found.now)) l → ⊥) }
+        ((a : Asked) → SaysAsked name.now (rows_of (found_of found.now)) a → ⊥) }
 {
     if name == "info" {
-        Some(Listing::Info(sections_of(found)))
+        Some(Asked::Sections(sections))
     } else if name == "disasm" {
-        Some(Listing::Code(code_listing_of(found)))
+        Some(Asked::Code {
+            all: has_flag(found, "all"),
+        })
     } else if name == "check" {
-        Some(Listing::Findings)
+        Some(Asked::Findings)
     } else {
         None
     }
@@ -582,10 +552,12 @@ fn show_options_of(found: &ArgMatches<'_>) -> ShowOptions
     }
 }
 
-/// What a command names: the paths of stories or walkthroughs, and where code is looked for.
+/// What a command names: the paths of stories or walkthroughs, the sections that are listed, and where code is looked
+/// for.
 #[derive(Drop)]
 struct Named<'a> {
     paths: Vec<&'a str>,
+    sections: Vec<Section>,
     roots: Roots<'a>,
 }
 
@@ -604,14 +576,14 @@ fn choose_listing<'a>(
     ensures says_none { OnErr result
         ((c : Choice) → Says name.now (rows_of (found_of found.now)) c → ⊥) }
 {
-    match listing_of(name, found) {
-        Some(listing) if !named.paths.is_empty() => {
+    match asked_of(name, found, named.sections) {
+        Some(asked) if !named.paths.is_empty() => {
             let options = show_options_of(found);
             Ok(Choice::Show {
                 stories: named.paths,
                 roots: named.roots,
                 options,
-                listing,
+                asked,
             })
         }
         Some(_) => {
@@ -705,13 +677,42 @@ fn roots_of<'a>(alloc: Global, found: &ArgMatches<'a>) -> Result<Roots<'a>, Allo
     })
 }
 
+/// The sections that flags name, in the order in which they are shown.
+fn sections_named(alloc: Global, found: &ArgMatches<'_>) -> Result<Vec<Section>, AllocError>
+    ensures { IfOk result (λ v. v.items ≡ sections_named (rows_of (found_of found.now))) }
+{
+    let mut sections = Vec::new(alloc);
+    for section in &SECTIONS {
+        if has_flag(found, section.name()) {
+            sections.push(*section)?;
+        }
+    }
+    Ok(sections)
+}
+
+/// The sections that are asked for: the header where none is named.
+fn sections_of(alloc: Global, found: &ArgMatches<'_>) -> Result<Vec<Section>, AllocError>
+    ensures { IfOk result (λ v. v.items ≡ sections_said (rows_of (found_of found.now))) }
+{
+    let mut sections = sections_named(alloc, found)?;
+    if sections.is_empty() {
+        sections.push(Section::Header)?;
+    }
+    Ok(sections)
+}
+
 /// What a command names.
 fn named_in<'a>(alloc: Global, found: &ArgMatches<'a>) -> Result<Named<'a>, AllocError>
     ensures { IfOk result (λ n. IsNamed (rows_of (found_of found.now)) n) }
 {
     let paths = texts_of(alloc, found, "STORY")?;
+    let sections = sections_of(alloc, found)?;
     let roots = roots_of(alloc, found)?;
-    Ok(Named { paths, roots })
+    Ok(Named {
+        paths,
+        sections,
+        roots,
+    })
 }
 
 /// What a command asks for, by what clap has met.

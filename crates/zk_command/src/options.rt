@@ -1,5 +1,7 @@
 // The options of the commands: one table, by which arguments are read, help is written and mistakes are told.
 
+use zk_inspect::section::{SECTIONS, Section};
+
 /// An option with a number.
 #[derive(Clone, Copy)]
 pub(crate) struct NumberOption {
@@ -51,12 +53,13 @@ pub(crate) enum CommandOption {
     Walkthroughs,
 }
 
-/// A command, by what its help says, with its options and then its paths.
+/// A command, by what its help says, with the sections that it lists, each by a flag, its options and then its paths.
 #[derive(Clone, Copy)]
 pub(crate) struct CommandTable {
     pub(crate) name: &'static str,
     pub(crate) about: &'static str,
     pub(crate) example: &'static str,
+    pub(crate) sections: &'static [Section],
     pub(crate) options: &'static [CommandOption],
 }
 
@@ -158,6 +161,7 @@ pub(crate) const PLAY: CommandTable = CommandTable {
     name: "play",
     about: "Plays a story",
     example: "Example: zkit play --steps 50000000 story.z5",
+    sections: &[],
     options: &PLAY_OPTIONS,
 };
 
@@ -196,56 +200,8 @@ const FILES_FROM: CommandOption = CommandOption::File {
     help: "Reads paths from this file, or from standard input for -, separated by new lines or zero bytes",
 };
 
-/// The options of `info`.
-const INFO_OPTIONS: [CommandOption; 20] = [
-    CommandOption::Flag {
-        name: "header",
-        help: "Lists the header",
-    },
-    CommandOption::Flag {
-        name: "map",
-        help: "Lists where the parts of the story begin",
-    },
-    CommandOption::Flag {
-        name: "abbreviations",
-        help: "Lists the abbreviations",
-    },
-    CommandOption::Flag {
-        name: "dictionary",
-        help: "Lists the words of the dictionary",
-    },
-    CommandOption::Flag {
-        name: "objects",
-        help: "Lists the objects with their properties",
-    },
-    CommandOption::Flag {
-        name: "tree",
-        help: "Lists the tree of objects",
-    },
-    CommandOption::Flag {
-        name: "ifid",
-        help: "Lists the IFID, by which catalogues name the story",
-    },
-    CommandOption::Flag {
-        name: "strings",
-        help: "Lists the strings in high memory",
-    },
-    CommandOption::Flag {
-        name: "properties",
-        help: "Lists the properties of the objects with their bytes",
-    },
-    CommandOption::Flag {
-        name: "globals",
-        help: "Lists the global variables with their first values",
-    },
-    CommandOption::Flag {
-        name: "alphabets",
-        help: "Lists the letters of the alphabets, and the extra characters",
-    },
-    CommandOption::Flag {
-        name: "extension",
-        help: "Lists the header extension table",
-    },
+/// The options of `info`, beside those of sections.
+const INFO_OPTIONS: [CommandOption; 8] = [
     NOTES,
     OBJECT_GRAPH,
     CommandOption::Flag {
@@ -263,6 +219,7 @@ const INFO: CommandTable = CommandTable {
     name: "info",
     about: "Lists the tables of stories; without an option, their headers",
     example: "Example: zkit info --dictionary story.z5",
+    sections: &SECTIONS,
     options: &INFO_OPTIONS,
 };
 
@@ -293,6 +250,7 @@ const DISASM: CommandTable = CommandTable {
     name: "disasm",
     about: "Disassembles the code reachable from the start",
     example: "Example: zkit disasm story.z5",
+    sections: &[],
     options: &DISASM_OPTIONS,
 };
 
@@ -322,6 +280,7 @@ const CHECK: CommandTable = CommandTable {
     name: "check",
     about: "Checks stories for damage and mistakes, and ends with status 6 if it finds any",
     example: CHECK_HELP,
+    sections: &[],
     options: &CHECK_OPTIONS,
 };
 
@@ -343,6 +302,7 @@ const TEST: CommandTable = CommandTable {
     name: "test",
     about: "Plays walkthroughs and compares the output with their transcripts",
     example: "Example: zkit test tests",
+    sections: &[],
     options: &TEST_OPTIONS,
 };
 
@@ -362,6 +322,7 @@ const UNPACK: CommandTable = CommandTable {
     name: "unpack",
     about: "Takes the story out of a Blorb file",
     example: "Example: zkit unpack story.zblorb story.z5",
+    sections: &[],
     options: &UNPACK_OPTIONS,
 };
 

@@ -1,5 +1,6 @@
 // What a run is asked for.
 
+use zk_inspect::section::Section;
 use zk_step::state::game_state::View;
 use zk_vm::limits::Limits;
 
@@ -12,6 +13,17 @@ pub struct Settings {
     pub seed: u64,
     /// What is shown of the status line and the upper window.
     pub view: View,
+}
+
+/// What a command lists of stories.
+#[derive(Drop)]
+pub enum Asked {
+    /// Sections on their tables, one at least, in the order in which they are shown.
+    Sections(Vec<Section>),
+    /// Their code. `all`: the routines that lie beside as well.
+    Code { all: bool },
+    /// What is wrong with them.
+    Findings,
 }
 
 /// In which form listings are shown.

@@ -96,11 +96,11 @@ impl Cover {
 }
 
 impl Places for Cover {
-    ghost use Rattle.zk_fast.specs.Covers.{Covers, Fits, covers_nothing, covers_twice, still_fits};
+    ghost use Rattle.zk_fast.specs.Covers.{Covers, IsBelowBound, covers_nothing, covers_twice, still_fits};
 
     ghost noted = { Covers };
 
-    ghost fits = { Fits };
+    ghost fits = { IsBelowBound };
 
     #[inline(always)]
     fn note(&mut self, address: u32) {

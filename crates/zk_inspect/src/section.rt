@@ -1,7 +1,7 @@
 // The sections in which the tables of a story are listed.
 
 ghost use Rattle.std.specs.Prelude.{◌≡◌};
-ghost use Rattle.zk_inspect.specs.Sections.{section_name};
+ghost use Rattle.zk_inspect.specs.Sections.{section_help, section_name};
 
 /// A section.
 #[derive(Clone, Copy, PartialEq, Eq, Drop)]
@@ -38,7 +38,7 @@ pub const SECTIONS: [Section; 12] = [
 ];
 
 impl Section {
-    /// The name of the section, as its title has it.
+    /// The name of the section, as its title and its option have it.
     pub fn name(self) -> &'static str
         ensures { result.now ≡ section_name self }
     {
@@ -55,6 +55,26 @@ impl Section {
             Section::Globals => "globals",
             Section::Alphabets => "alphabets",
             Section::Extension => "extension",
+        }
+    }
+
+    /// What the section has, as help says it.
+    pub fn help(self) -> &'static str
+        ensures { result.now ≡ section_help self }
+    {
+        match self {
+            Section::Header => "Lists the header",
+            Section::Map => "Lists where the parts of the story begin",
+            Section::Abbreviations => "Lists the abbreviations",
+            Section::Dictionary => "Lists the words of the dictionary",
+            Section::Objects => "Lists the objects with their properties",
+            Section::Tree => "Lists the tree of objects",
+            Section::Ifid => "Lists the IFID, by which catalogues name the story",
+            Section::Strings => "Lists the strings in high memory",
+            Section::Properties => "Lists the properties of the objects with their bytes",
+            Section::Globals => "Lists the global variables with their first values",
+            Section::Alphabets => "Lists the letters of the alphabets, and the extra characters",
+            Section::Extension => "Lists the header extension table",
         }
     }
 }

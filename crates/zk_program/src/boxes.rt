@@ -4,14 +4,13 @@ ghost use Rattle.std.specs.Prelude.{◌≡◌, ◌≤◌, true, false, None, Som
 ghost use Rattle.zk_vm.specs.Bounds.{AreInRange};
 ghost use Rattle.zk_vm.specs.Halts.{event_waited};
 ghost use Rattle.zk_vm.specs.Step.{is_read};
-ghost use Rattle.zk_command.specs.Playing.{Work};
+ghost use Rattle.zk_program.specs.Playing.{Work};
 
-use crate::held_prompt::HeldPrompt;
+use crate::exit::Exit;
+use crate::playing::{Devices, PlayRequest, note_stop, start};
+use crate::report::report;
 use std::alloc::{AllocError, Global};
 use std::io::Read;
-use zk_command::exit::Exit;
-use zk_command::playing::{Devices, PlayRequest, note_stop, start};
-use zk_command::report::report;
 use zk_command::settings::Settings;
 use zk_fast::places::Places;
 use zk_mem::memory::Memory;
@@ -19,6 +18,7 @@ use zk_step::output::status::status_line;
 use zk_step::output::view::show_status_line;
 use zk_step::state::ending::Event;
 use zk_step::state::game_state::View;
+use zk_system::held_prompt::HeldPrompt;
 use zk_term::buffered_screen::BufferedScreen;
 use zk_term::io_device::IoDevice;
 use zk_term::lines::{Input, Lines};

@@ -1,14 +1,15 @@
 // Files with the addresses of instructions that ran.
 
-use crate::files::read_whole;
-use crate::told::{out_of_memory, tell_last_line, tell_reason};
+use crate::exit::Exit;
+use crate::told::{out_of_memory, tell_last_line};
 use std::alloc::{AllocError, Global};
 use std::{fs, str};
-use zk_command::exit::Exit;
-use zk_command::keeping::{Kept, keep};
-use zk_command::shown::Shown;
 use zk_fast::places::{Cover, Places};
 use zk_notes::cover::addresses_in;
+use zk_system::files::read_whole;
+use zk_system::keeping::{Kept, keep};
+use zk_system::reason::tell_reason;
+use zk_system::shown::Shown;
 use zk_term::writing::{hex_digits_of, zeros_before};
 use zk_vm::stop::Stop;
 

@@ -1,18 +1,18 @@
 // Stories as facts, for other programs.
 
 ghost use Rattle.std.specs.Prelude.{◌≡◌, false, IfOk};
-ghost use Rattle.zk_command.specs.Verdict.{IsStart};
+ghost use Rattle.zk_program.specs.Verdict.{IsStart};
 
+use crate::about::About;
+use crate::exit::Exit;
+use crate::listing::{Listing, exit_after, facts_of, open_listed};
 use crate::play::screen_of;
+use crate::report::report_listing;
 use crate::told::out_of_memory;
 use std::alloc::AllocError;
 use std::fs::File;
 use std::io::ErrorKind;
-use zk_command::about::About;
 use zk_command::arguments::NO_TEXT;
-use zk_command::exit::Exit;
-use zk_command::listing::{Listing, exit_after, facts_of, open_listed};
-use zk_command::report::report_listing;
 use zk_command::settings::Form;
 use zk_facts::document::object_about;
 use zk_facts::outcome::{Facts, Looked, Outcome};

@@ -1,14 +1,22 @@
-// What the program does with the system's files, folders and terminal.
+// The commands: stories are opened and played, listed and checked, tested and unpacked, and it is told how that ended.
 #![tactic(auto)]
 
+pub mod about;
+mod bad_destination;
 pub mod boxes;
+mod calls;
+pub mod clean;
 pub mod cover;
+pub mod exit;
 mod facts;
-pub mod files;
-mod held_prompt;
+pub mod heading;
 pub mod list;
+pub mod listing;
+pub mod opening;
 pub mod play;
+pub mod playing;
 mod readable;
+pub mod report;
 mod roots;
 mod session;
 pub mod suite;

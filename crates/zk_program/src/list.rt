@@ -2,21 +2,21 @@
 
 ghost use Rattle.std.specs.Prelude.{◌≡◌, false};
 
+use crate::about::About;
+use crate::exit::Exit;
 use crate::facts::list_facts;
-use crate::files::files_of;
+use crate::listing::{CodeListing, Listing, leave_out, list_and_report};
 use crate::play::screen_of;
 use crate::readable::{ListRequest, list_counts, list_readable};
+use crate::report::report_listing;
 use crate::roots::{CodeRoots, code_roots};
 use crate::told::out_of_memory;
 use std::fs::File;
-use zk_command::about::About;
-use zk_command::exit::Exit;
-use zk_command::listing::{CodeListing, Listing, leave_out, list_and_report};
-use zk_command::report::report_listing;
-use zk_command::settings::{Form, Roots, ShowOptions};
-use zk_command::shown::Shown;
-use zk_command::terminal::{columns, is_told_at};
+use zk_command::settings::{Asked, Form, Roots, ShowOptions};
 use zk_notes::counts::Counts;
+use zk_system::files::files_of;
+use zk_system::shown::Shown;
+use zk_system::terminal::{columns, is_told_at};
 use zk_term::io_device::IoDevice;
 
 /// Lists the story in a file, below its heading where it is one of several, and answers the program's status.
@@ -150,28 +150,24 @@ fn list_paths(
     list_each(rt, several, request, counts)
 }
 
-/// A listing, with the roots that code is looked for from as well.
-fn with_roots<'a>(listing: Listing<'_>, roots: &'a CodeRoots) -> Listing<'a> {
-    match listing {
-        Listing::Info(sections) => Listing::Info(sections),
-        Listing::Code(code) => Listing::Code(CodeListing {
-            all: code.all,
-            notes: code.notes,
+/// What is listed of each story, with the roots that code is looked for from.
+fn listing_of<'a>(asked: &'a Asked, roots: &'a CodeRoots, notes: bool) -> Listing<'a> {
+    match asked {
+        Asked::Sections(sections) => Listing::Info(sections.as_slice()),
+        Asked::Code { all } => Listing::Code(CodeListing {
+            all: *all,
+            notes,
             addresses: roots.addresses.as_slice(),
             routines: roots.routines.as_slice(),
         }),
-        Listing::Findings => Listing::Findings,
+        Asked::Findings => Listing::Findings,
     }
 }
 
 /// What is asked of each story, by options and by the roots of code.
-fn request_of<'a>(
-    roots: &'a CodeRoots,
-    options: ShowOptions,
-    listing: Listing<'_>,
-) -> ListRequest<'a> {
+fn request_of<'a>(asked: &'a Asked, roots: &'a CodeRoots, options: ShowOptions) -> ListRequest<'a> {
     ListRequest {
-        listing: with_roots(listing, roots),
+        listing: listing_of(asked, roots, options.notes),
         form: options.form,
         notes: options.notes,
         covered: match &roots.covered {
@@ -187,14 +183,14 @@ pub fn list_all(
     paths: &[&str],
     roots: &Roots<'_>,
     options: ShowOptions,
-    listing: Listing<'_>,
+    asked: &Asked,
     listed: bool,
 ) -> u8 {
     let roots = match code_roots(rt, roots) {
         Ok(roots) => roots,
         Err(status) => return status,
     };
-    let request = request_of(&roots, options, listing);
+    let request = request_of(asked, &roots, options);
     let mut counts = Counts::new();
     let status = list_paths(rt, paths, options, &request, listed, &mut counts);
     match options.form {

@@ -2,17 +2,18 @@
 
 ghost use Rattle.std.specs.Prelude.{◌≡◌, false};
 
+use crate::about::About;
+use crate::exit::Exit;
 use crate::facts::{Look, look_into};
+use crate::heading::write_heading;
+use crate::listing::{CodeListing, Listing, leave_out};
 use crate::play::screen_of;
+use crate::report::report_listing;
 use crate::told::out_of_memory;
 use std::alloc::AllocError;
-use zk_command::about::About;
-use zk_command::exit::Exit;
-use zk_command::heading::write_heading;
-use zk_command::listing::{CodeListing, Listing, NO_SECTIONS, Sections, leave_out};
-use zk_command::report::report_listing;
 use zk_command::settings::Form;
 use zk_facts::outcome::Facts;
+use zk_inspect::section::Section;
 use zk_notes::counts::Counts;
 use zk_notes::cover::marked;
 use zk_notes::graph::{code_graph, tree_graph};
@@ -50,14 +51,8 @@ impl<'a> ListRequest<'a> {
     /// What is listed for the form: for a graph of `info` the tree of objects, and for a picture the map.
     fn listing(&self) -> Listing<'a> {
         match (self.form, self.listing) {
-            (Form::Graph, Listing::Info(_)) => Listing::Info(Sections {
-                tree: true,
-                ..NO_SECTIONS
-            }),
-            (Form::Picture, Listing::Info(_)) => Listing::Info(Sections {
-                map: true,
-                ..NO_SECTIONS
-            }),
+            (Form::Graph, Listing::Info(_)) => Listing::Info(&[Section::Tree]),
+            (Form::Picture, Listing::Info(_)) => Listing::Info(&[Section::Map]),
             (_, listing) => listing,
         }
     }

@@ -3,7 +3,7 @@
 use crate::cover::covered_in;
 use crate::told::out_of_memory;
 use zk_command::settings::Roots;
-use zk_command::shown::Shown;
+use zk_system::shown::Shown;
 
 /// Where code is looked for beside the first instruction.
 #[derive(Drop)]

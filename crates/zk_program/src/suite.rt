@@ -3,20 +3,19 @@
 ghost use Rattle.std.specs.Prelude.{◌≡◌, IfOk, false};
 ghost use Rattle.zk_vm.specs.Bounds.{AreInRange};
 
-use crate::files::{files_of, read_whole};
+use crate::about::About;
+use crate::playing::{Devices, PlayRequest, play_and_report};
 use crate::session::{Commands, MemorySlot, Session, SessionScreen};
-use crate::told::tell_reason;
 use std::fs::File;
 use std::io::{self, ErrorKind, Write};
-use zk_command::about::About;
 use zk_command::manner::Manner;
-use zk_command::playing::{Devices, PlayRequest, play_and_report};
-use zk_command::reason::Reason;
-use zk_command::shown::Shown;
 use zk_fast::places::Unnoted;
 use zk_suite::difference::Difference;
 use zk_suite::search::contains;
 use zk_suite::walkthrough::{Check, Walkthrough};
+use zk_system::files::{files_of, read_whole};
+use zk_system::reason::{Reason, tell_reason};
+use zk_system::shown::Shown;
 use zk_term::echo::Echo;
 use zk_term::io_device::IoDevice;
 use zk_term::nothing::Nothing;

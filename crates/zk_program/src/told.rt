@@ -2,19 +2,11 @@
 
 ghost use Rattle.std.specs.Prelude.{◌≡◌};
 
-use std::io;
-use zk_command::about::About;
-use zk_command::exit::Exit;
-use zk_command::reason::Reason;
-use zk_command::report::{report_briefly, report_listing};
-use zk_command::shown::Shown;
+use crate::about::About;
+use crate::exit::Exit;
+use crate::report::{report_briefly, report_listing};
 use zk_term::io_device::IoDevice;
 use zk_vm::stop::Stop;
-
-/// Tells why something can't be done with a file.
-pub fn tell_reason(rt: &HostRuntime, path: &str, error: &io::Error) {
-    let _ = eprintln!(rt; "zkit: {}: {}", Shown(path), Reason(error));
-}
 
 /// Tells how the program ends before a play or a listing, and answers its status.
 pub fn tell_exit(rt: &HostRuntime, exit: &Exit, about: &About) -> u8 {

@@ -1,12 +1,13 @@
 // The story of a Blorb file, written to a file of its own.
 
-use crate::files::read_whole;
-use crate::told::{tell_last_line, tell_reason};
+use crate::exit::Exit;
+use crate::told::tell_last_line;
 use std::fs::{self, OpenOptions};
 use std::io::{self, Write};
 use zk_blorb::story::story_in;
-use zk_command::exit::Exit;
-use zk_command::shown::Shown;
+use zk_system::files::read_whole;
+use zk_system::reason::tell_reason;
+use zk_system::shown::Shown;
 use zk_vm::stop::Stop;
 
 /// Writes a file that is not there yet. Where it can't be written whole nothing is left of it.

@@ -20,7 +20,7 @@ use Rattle.zk_step.specs.Objects.{object_changed, object_answer}
 use Rattle.zk_tables.specs.Attributes.{attribute_at, attribute_put}
 use Rattle.zk_tables.specs.Chain.{chain_from, children_of}
 use Rattle.zk_tables.specs.Layout.{layout_of, is_entry_in, is_entry, entry_of, entries_in, entries}
-use Rattle.zk_tables.specs.Links.{address_of, number_at, number_put, link_at, link_put}
+use Rattle.zk_tables.specs.Links.{address_of, object_number_at, number_put, link_at, link_put}
 use Rattle.zk_tables.specs.Properties.{table_of, list_of, property_of, default_of, property_value, property_address_of}
 use Rattle.zk_tables.specs.Properties.{next_property_of, property_put, property_length_of, name_of}
 use Rattle.zk_tables.specs.Tree.{naming_among, naming_of, unlinked, unlinked_where, removed, linked, inserted}
@@ -38,7 +38,7 @@ use Rattle.zk_text.specs.Words.{z_characters}
 use Rattle.zk_mem.specs.Words.{words_in, words_at, text_end_at}
 use Rattle.zk_step.specs.Idle.{idle}
 use Rattle.zk_tables.specs.Runs.{bytes_put, places, bytes_read}
-use Rattle.zk_step.specs.TextBuffers.{early_line_put, later_line_put, divided, line_put}
+use Rattle.zk_step.specs.TextBuffers.{early_line_put, later_line_put, divided_into_words, line_put}
 use Rattle.zk_text.specs.Keys.{place_from, a2_place, spelling, spellings, fives, key_of}
 use Rattle.zk_tables.specs.Dictionaries.{dictionary_byte, dictionary_word, dictionary_by, dictionary_at, bytes_from}
 use Rattle.zk_tables.specs.Dictionaries.{separators_of, begins_with, has_key, found_from, found_in}
@@ -75,14 +75,15 @@ unfolding arithmetic shifted_left shifted_right sign_shifted comparison equals_a
     count_at routine_at with_arguments Routines.called stored returned thrown call_effect routine_effect unit_length
     cell_at code_word_at left unwound continuation_after led gone gone_on finished control jump_target offset_target
     object_changed object_answer attribute_at attribute_put chain_from children_of layout_of is_entry_in is_entry
-    entry_of entries_in entries address_of number_at number_put link_at link_put table_of list_of property_of
+    entry_of entries_in entries address_of object_number_at number_put link_at link_put table_of list_of property_of
     default_of property_value property_address_of next_property_of property_put property_length_of name_of
     naming_among naming_of unlinked unlinked_where removed linked inserted list_byte property_by property_at
     properties_from properties_at found_at first_number_from first_number_at number_after_at printing units_of
     characters_of alphabet_table letter_by words_from unicode_table words_at_table own_characters character
     code_from code_of values abbreviation text_units checked_end pieces_past shown shown_all standard_letters
     standard_characters z_characters words_in words_at text_end_at idle bytes_put early_line_put later_line_put
-    small_letter lower_code ascii_capitals extra_capitals divided line_put place_from a2_place spelling spellings
+    small_letter lower_code ascii_capitals extra_capitals divided_into_words line_put place_from a2_place spelling
+    spellings
     fives key_of dictionary_byte dictionary_word dictionary_by dictionary_at bytes_from separators_of begins_with
     has_key found_from found_in is_separator is_letter run token_here tokens_from tokens letters_counted
     letters_to_zero letters_of word_in words_of block_put blocks_put words_put tokenised words_changed reading

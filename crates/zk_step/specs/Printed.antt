@@ -6,7 +6,7 @@ use Rattle.zk_text.specs.Extra.{ExtraTable}
 use Rattle.zk_text.specs.Shown.{shown, shown_all}
 use Rattle.zk_text.proofs.ShownLemmas.{shown_all-append, shown_all-one}
 use Rattle.zk_term.specs.Windows.{Windows, printed}
-use Rattle.zk_step.specs.Routing.{stored, stored_all, shown_if, ends_line}
+use Rattle.zk_step.specs.Routing.{unit_stored, stored_all, shown_if, ends_line}
 use Rattle.zk_step.specs.declared.output.printer.Selected.{Selected}
 
 -- ---- on streams 1 and 2
@@ -107,8 +107,8 @@ FirstPart part whole = (length part ≡ 65536) × ((more : List ℕ) × (whole �
 pub stored_all-append : (e : ExtraTable) (s t : List Unit) → stored_all e (s ++ t) ≡ stored_all e s ++ stored_all e t
 unfolding stored_all
 stored_all-append e [] t = refl
-stored_all-append e (u ∷ s) t = ap (λ (cs : List ℕ). stored e u ++ cs) (stored_all-append e s t)
-    ∙ sym (append_assoc (stored e u) (stored_all e s) (stored_all e t))
+stored_all-append e (u ∷ s) t = ap (λ (cs : List ℕ). unit_stored e u ++ cs) (stored_all-append e s t)
+    ∙ sym (append_assoc (unit_stored e u) (stored_all e s) (stored_all e t))
 
 pub stored_twice : (e f : ExtraTable) (a b c : List ℕ) (s t : List Unit) → f ≡ e → b ≡ a ++ stored_all e s
     → c ≡ b ++ stored_all f t → c ≡ a ++ stored_all e (s ++ t)
@@ -134,7 +134,7 @@ stored_late e f a b c s t same h k =
 abbrev pub Collected : List ℕ → List ℕ → Type 0
 Collected got all = (got ≡ all) ⊎ FirstPart got all
 
-pub stored_unit : (e : ExtraTable) (a b : List ℕ) (u : Unit) (cs : List ℕ) → cs ≡ stored e u → b ≡ a ++ cs
+pub stored_unit : (e : ExtraTable) (a b : List ℕ) (u : Unit) (cs : List ℕ) → cs ≡ unit_stored e u → b ≡ a ++ cs
     → b ≡ a ++ stored_all e (u ∷ [])
 unfolding stored_all
-stored_unit e a b u cs is h = h ∙ ap (λ (x : List ℕ). a ++ x) (is ∙ sym (append-nil (stored e u)))
+stored_unit e a b u cs is h = h ∙ ap (λ (x : List ℕ). a ++ x) (is ∙ sym (append-nil (unit_stored e u)))

@@ -74,14 +74,14 @@ code_stored t code =
     else 63 ∷ []
 
 -- a unit as codes for a table (section 7.1.2.2)
-unfoldable pub stored : ExtraTable → text.Unit → List ℕ
-stored t (unit.Code code) = code_stored t code
-stored t (unit.Character c) = unwrap_or (code_of t c) 63 ∷ []
+unfoldable pub unit_stored : ExtraTable → text.Unit → List ℕ
+unit_stored t (unit.Code code) = code_stored t code
+unit_stored t (unit.Character c) = unwrap_or (code_of t c) 63 ∷ []
 
 -- units as codes for a table
 unfoldable pub stored_all : ExtraTable → List text.Unit → List ℕ
 stored_all t [] = []
-stored_all t (u ∷ us) = stored t u ++ stored_all t us
+stored_all t (u ∷ us) = unit_stored t u ++ stored_all t us
 
 -- the newest table gets codes after those that it has, all of them known before the first is stored
 abbrev pub table_filled : GameState → OpenTable → List ℕ → Result GameState Fault

@@ -42,8 +42,8 @@ later_line_put m text line = do
   if is_filled size count then Ok m else counted_letters m text count (taken_letters m (size - count) line)
 
 -- the text in a text buffer is divided into words by the dictionary at an address
-unfoldable pub divided : MemoryMap → ℕ → ℕ → ℕ → Bool → Result MemoryMap Fault
-divided m text parse dictionary leaves_unknown =
+unfoldable pub divided_into_words : MemoryMap → ℕ → ℕ → ℕ → Bool → Result MemoryMap Fault
+divided_into_words m text parse dictionary leaves_unknown =
     dictionary_at m dictionary >>= λ d. tokenised m text parse d leaves_unknown
 
 -- the address of the story's own dictionary (section 13.1)
@@ -54,8 +54,8 @@ own_dictionary m = (header_of m.file).dictionary
 unfoldable pub line_put : MemoryMap → ℕ → ℕ → List ℕ → Result MemoryMap Fault
 line_put m text parse line =
     if nat_lt m.version 5
-    then (early_line_put m text line >>= λ n. divided n text parse (own_dictionary n) false)
-    else (later_line_put m text line >>= λ n. if parse == 0 then Ok n else divided n text parse
+    then (early_line_put m text line >>= λ n. divided_into_words n text parse (own_dictionary n) false)
+    else (later_line_put m text line >>= λ n. if parse == 0 then Ok n else divided_into_words n text parse
     (own_dictionary n) false)
 
 -- ---- what is kept of a line

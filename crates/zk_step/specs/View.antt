@@ -19,8 +19,8 @@ rows_shown w row zero = []
 rows_shown w row (suc n) = (124 ∷ 32 ∷ row_text w row ++ 10 ∷ []) ++ rows_shown w (row + 1) n
 
 -- the line of the status, which version 3 has alone
-abbrev pub status_shown : MemoryMap → Result (List ℕ) Fault
-status_shown m =
+abbrev pub status_text : MemoryMap → Result (List ℕ) Fault
+status_text m =
     if m.version == 3 then (status_units m >>= λ units. Ok (shown_all (own_characters m) units ++ 10 ∷ [])) else Ok []
 
 -- lines on the screen, where there are some, after a new line unless the last character was one
@@ -32,7 +32,7 @@ lines_shown w (c ∷ cs) = (with_line_start true w, on_screen (fresh_line w.at_l
 abbrev pub viewed_by : View → GameState → Result (GameState × Texts) Fault
 viewed_by Plain w = Ok (w, no_text)
 viewed_by Upper w =
-    status_shown w.memory >>= λ status. Ok (lines_shown w (status ++ rows_shown w.windows 1 w.windows.height))
+    status_text w.memory >>= λ status. Ok (lines_shown w (status ++ rows_shown w.windows 1 w.windows.height))
 
 unfoldable pub viewed : GameState → Result (GameState × Texts) Fault
 viewed w = viewed_by w.view w

@@ -7,8 +7,9 @@ use Rattle.zk_mem.specs.declared.fault.Fault.TheVariants.{BadDictionary}
 use Rattle.zk_mem.specs.Results.{◌>>=◌}
 use Rattle.zk_mem.specs.Map.{MemoryMap, byte_at, word_at}
 use Rattle.zk_tables.specs.declared.dictionary.Dictionary.{Dictionary}
-use Rattle.zk_tables.specs.Dictionaries.{key_length, magnitude, do_not_fall, dictionary_byte, dictionary_word}
+use Rattle.zk_tables.specs.Dictionaries.{key_length, do_not_fall, dictionary_byte, dictionary_word}
 use Rattle.zk_tables.specs.Dictionaries.{bytes_from, keys_from, dictionary_by, dictionary_at}
+use Rattle.zk_tables.specs.Signed.{magnitude}
 
 same_after : {A B : Type 0} (r : Result A Fault) (f g : A → Result B Fault) → ((x : A) → f x ≡ g x)
     → (r >>= f) ≡ (r >>= g)

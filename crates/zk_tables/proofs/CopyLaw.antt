@@ -12,10 +12,11 @@ use Rattle.zk_mem.specs.Results.{◌>>=◌}
 use Rattle.zk_mem.specs.Laws.{WritesByte}
 use Rattle.zk_mem.proofs.Writes.{byte_is_written}
 use Rattle.zk_tables.specs.Runs.{places, bytes_read, bytes_stored}
-use Rattle.zk_tables.specs.Copying.{byte_copied, copied_at_once, copied_forwards, magnitude, table_copied}
+use Rattle.zk_tables.specs.Copying.{byte_copied, copied_at_once, copied_forwards, table_copied}
 use Rattle.zk_tables.specs.CopyLaws.{IsSameBeside, IsCopied, CopiesAreWhole, ClearsAreWhole, ForwardsIsAtOnce}
 use Rattle.zk_tables.proofs.Units.{read_at, read_length}
 use Rattle.zk_tables.proofs.Copies.{IsReadFirst, forwards_at_once, put_is, rest_kept, first_on}
+use Rattle.zk_tables.specs.Signed.{magnitude}
 
 -- where a cell is as before, so is the byte
 byte_from_cell : (m n : MemoryMap) (c : ℕ) → length n.bytes ≡ length m.bytes → cell_at n c ≡ cell_at m c

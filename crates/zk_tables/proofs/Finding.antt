@@ -8,10 +8,11 @@ use Rattle.std.proofs.lemmas.Bool.Decides.{nat_tests}
 use Rattle.zk_mem.specs.declared.fault.Fault.{Fault}
 use Rattle.zk_mem.specs.Map.{MemoryMap, readable_end}
 use Rattle.zk_tables.specs.declared.dictionary.Dictionary.{Dictionary}
-use Rattle.zk_tables.specs.Dictionaries.{key_length, magnitude, dictionary_byte, dictionary_word, dictionary_by}
+use Rattle.zk_tables.specs.Dictionaries.{key_length, dictionary_byte, dictionary_word, dictionary_by}
 use Rattle.zk_tables.specs.Dictionaries.{dictionary_at, IsDictionaryOf, parts_at, bytes_from, keys_from, has_key}
 use Rattle.zk_tables.specs.Dictionaries.{found_from, entry_start}
 use Rattle.zk_tables.proofs.Steps.{bind_ok}
+use Rattle.zk_tables.specs.Signed.{magnitude}
 
 -- what stands after a byte that is there
 pub drop_some : (xs : List ℕ) (i x : ℕ) → slice_get xs i ≡ Some x → drop i xs ≡ x ∷ drop (suc i) xs

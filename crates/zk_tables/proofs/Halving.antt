@@ -9,7 +9,7 @@ use Rattle.std.proofs.lemmas.Bool.{eq-eqb, ne_eqb, both_ways, and_parts}
 use Rattle.std.proofs.lemmas.Option.{slice_get-get_or}
 use Rattle.zk_mem.specs.Map.{MemoryMap, readable_end}
 use Rattle.zk_tables.specs.declared.dictionary.Dictionary.{Dictionary}
-use Rattle.zk_tables.specs.Dictionaries.{key_length, magnitude, dictionary_byte, dictionary_word, dictionary_by}
+use Rattle.zk_tables.specs.Dictionaries.{key_length, dictionary_byte, dictionary_word, dictionary_by}
 use Rattle.zk_tables.specs.Dictionaries.{dictionary_at, parts_at, is_above, do_not_fall, bytes_from, keys_from}
 use Rattle.zk_tables.specs.Dictionaries.{begins_with, has_key, found_from, found_in, entry_start, IsDictionaryOf}
 use Rattle.zk_tables.specs.Halves.{entry_key, halved, halved_whole, found_at_end, found_by_halves, compared_to_end}
@@ -18,6 +18,7 @@ use Rattle.zk_tables.proofs.Steps.{bind_ok}
 use Rattle.zk_tables.proofs.Ordering.{length_bytes}
 use Rattle.zk_tables.proofs.TableLaw.{table_is_read}
 use Rattle.zk_tables.proofs.Finding.{drop_some, found_on, found_here, entry_inside, based, keys_by_bytes}
+use Rattle.zk_tables.specs.Signed.{magnitude}
 
 -- ---- the order of keys
 

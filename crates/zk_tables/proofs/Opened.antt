@@ -6,7 +6,7 @@ use Rattle.zk_tables.specs.Rectangles.{row_at, rows_from, rows_of, more_rows, jo
 use Rattle.zk_tables.specs.Layout.{layout_of, is_entry_in, is_entry, entry_of, entries_in, entries}
 use Rattle.zk_mem.specs.Header.{header_of, unit_length}
 use Rattle.zk_tables.specs.Attributes.{attribute_at, attribute_put}
-use Rattle.zk_tables.specs.Links.{address_of, number_at, number_put, link_at, link_put, write_test}
+use Rattle.zk_tables.specs.Links.{address_of, object_number_at, number_put, link_at, link_put, write_test}
 use Rattle.zk_tables.specs.Tree.{naming_among, naming_of, unlinked, unlinked_where, removed, linked, inserted}
 use Rattle.zk_tables.specs.Chain.{chain_from, children_of}
 use Rattle.zk_tables.specs.Properties.{table_of, list_of, property_of, default_of, property_value, property_address_of}
@@ -24,7 +24,7 @@ use Rattle.zk_tables.specs.Parsing.{letters_counted, letters_to_zero, letters_of
 unfoldable pub examples : ⊤
 unfolding table_copied copied_forwards places bytes_read bytes_stored byte_at byte_put row_at rows_from rows_of
     more_rows joined_rows layout_of is_entry_in is_entry entry_of entries_in entries header_of unit_length word_at
-    word_put cell_at code_word_at attribute_at attribute_put address_of number_at number_put link_at link_put
+    word_put cell_at code_word_at attribute_at attribute_put address_of object_number_at number_put link_at link_put
     write_test naming_among naming_of unlinked unlinked_where removed linked inserted chain_from children_of
     table_of list_of property_of default_of property_value property_address_of next_property_of property_put
     property_length_of name_of list_byte property_by property_at properties_from properties_at found_at

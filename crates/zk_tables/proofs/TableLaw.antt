@@ -13,7 +13,7 @@ use Rattle.zk_mem.specs.Header.{word_in}
 use Rattle.zk_mem.specs.Map.{MemoryMap, readable_end, byte_at, word_at, HasBytes}
 use Rattle.zk_tables.specs.declared.dictionary.Dictionary.{Dictionary}
 use Rattle.zk_tables.specs.PropertyList.{Stands}
-use Rattle.zk_tables.specs.Dictionaries.{key_length, magnitude, Table, IsTable, table_bytes, described, dictionary_byte}
+use Rattle.zk_tables.specs.Dictionaries.{key_length, Table, IsTable, table_bytes, described, dictionary_byte}
 use Rattle.zk_tables.specs.Dictionaries.{dictionary_word, dictionary_by, dictionary_at, IsDictionaryOf, parts_at}
 use Rattle.zk_tables.specs.Dictionaries.{bytes_from, keys_from, entry_start, DictionariesAreTables}
 use Rattle.zk_tables.proofs.Steps.{bind_ok, bind_err, chosen, same_value}
@@ -21,6 +21,7 @@ use Rattle.zk_tables.proofs.ListLaw.{byte_small}
 use Rattle.zk_tables.proofs.Ordering.{length_bytes}
 use Rattle.zk_tables.proofs.Finding.{read_stands}
 use Rattle.zk_tables.proofs.LookUpLaw.{stands_first, stands_behind, table_entries_stand}
+use Rattle.zk_tables.specs.Signed.{magnitude}
 
 -- ---- bytes of data
 

@@ -14,7 +14,7 @@ use Rattle.zk_tables.specs.declared.links.Link.TheVariants.{Parent, Sibling, Chi
 use Rattle.zk_tables.specs.declared.links.LinkPlace.{LinkPlace}
 use Rattle.zk_tables.specs.Layout.{early_layout, late_layout, layout_of, default_words_start, first_entry, is_entry}
 use Rattle.zk_tables.specs.Layout.{is_entry_in, entry_of}
-use Rattle.zk_tables.specs.Links.{order_of, address_of, number_at, number_put, link_at, link_put, write_test}
+use Rattle.zk_tables.specs.Links.{order_of, address_of, object_number_at, number_put, link_at, link_put, write_test}
 use Rattle.zk_tables.specs.Links.{write_tests}
 use Rattle.zk_tables.proofs.Steps.{bind_ok, bind_err, chosen, same_value, same_fault, same_map}
 
@@ -109,8 +109,8 @@ unfolding word_at
 word_readable m a h = let test : nat_lt (a + 1) (readable_end m) ≡ true = grind (arith, nat_tests) in rw test (_, refl)
 
 number_readable : (m : MemoryMap) (a : ℕ) → a + (layout_of m.version).link_bytes ≤ readable_end m
-    → (v : ℕ) × (number_at m a ≡ Ok v)
-unfolding number_at
+    → (v : ℕ) × (object_number_at m a ≡ Ok v)
+unfolding object_number_at
 number_readable m a h = elim (layouts m.version) [
   | inl e ↦ (let room : a + 1 ≤ readable_end m = rw e at h in rw e (byte_readable m a room))
   | inr e ↦ (let room : a + 2 ≤ readable_end m = rw e at h in rw e (word_readable m a room))
@@ -286,7 +286,7 @@ pub link_entry : (m : MemoryMap) (place : LinkPlace) (v : ℕ) → place.object 
 unfolding link_at address_of
 link_entry m place v ne h =
     let test = ne_eqb place.object 0 ne in
-    let e = bind_ok (address_of m place) (number_at m) v (rw test at h) in
+    let e = bind_ok (address_of m place) (object_number_at m) v (rw test at h) in
     let f = bind_ok (entry_of m place.object) _ e.0 e.1 in
     (f.0, f.1)
 

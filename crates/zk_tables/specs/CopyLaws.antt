@@ -2,7 +2,8 @@
 use Rattle.std.specs.Prelude.{◌≡◌, ◌≢◌, ◌<◌, ◌↔◌, ℕ, ◌+◌, ◌%◌, length, Ok}
 use Rattle.zk_mem.specs.Map.{MemoryMap, byte_at, cell_at}
 use Rattle.zk_tables.specs.Runs.{places}
-use Rattle.zk_tables.specs.Copying.{copied_at_once, copied_forwards, magnitude, table_copied}
+use Rattle.zk_tables.specs.Copying.{copied_at_once, copied_forwards, table_copied}
+use Rattle.zk_tables.specs.Signed.{magnitude}
 
 -- the map n is m but for so many bytes of a table
 pub record IsSameBeside (m n : MemoryMap) (table size : ℕ) : Type 0 where

@@ -4,6 +4,7 @@ use Rattle.zk_mem.specs.declared.fault.Fault.{Fault}
 use Rattle.zk_mem.specs.Map.{MemoryMap, byte_at, byte_put}
 use Rattle.zk_mem.specs.Results.{◌>>=◌}
 use Rattle.zk_tables.specs.Runs.{places, bytes_read, bytes_stored}
+use Rattle.zk_tables.specs.Signed.{magnitude}
 
 -- all bytes are read before the first is stored
 abbrev pub copied_at_once : MemoryMap → List ℕ → List ℕ → Result MemoryMap Fault
@@ -22,10 +23,6 @@ copied_forwards m (a ∷ from) [] = Ok m
 -- so many bytes become zero
 abbrev pub cleared : MemoryMap → ℕ → ℕ → Result MemoryMap Fault
 cleared m a n = bytes_stored m (places a n) (replicate n 0)
-
--- the number without its sign
-abbrev pub magnitude : ℕ → ℕ
-magnitude size = if nat_lt size 32768 then size else 65536 - size
 
 -- A table is copied to another: as if at once, and forwards where the size is negative. With no second table the first
 -- is cleared.

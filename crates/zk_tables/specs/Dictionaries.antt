@@ -10,14 +10,11 @@ use Rattle.zk_mem.specs.Map.{MemoryMap, readable_end, byte_at, word_at, HasBytes
 use Rattle.zk_text.specs.Keys.{two_bytes}
 use Rattle.zk_tables.specs.declared.dictionary.Dictionary.{Dictionary}
 use Rattle.zk_tables.specs.PropertyList.{Stands}
+use Rattle.zk_tables.specs.Signed.{magnitude}
 
 -- the bytes of a key: 4 up to version 3, 6 from version 4 on (sections 13.3 and 13.4)
 abbrev pub key_length : ℕ → ℕ
 key_length version = if nat_lt version 4 then 4 else 6
-
--- how many entries a count says, which is signed (section 13.2)
-abbrev pub magnitude : ℕ → ℕ
-magnitude count = if nat_lt count 32768 then count else 65536 - count
 
 -- a key is above another: where they first differ its byte is greater, as unsigned numbers
 unfoldable pub is_above : List ℕ → List ℕ → Bool

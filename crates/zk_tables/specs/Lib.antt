@@ -1,4 +1,5 @@
 pub mod Layout
+pub mod Signed
 pub mod Links
 pub mod Chain
 pub mod Tree

@@ -43,8 +43,8 @@ address_of m place = do
   Ok (entry + (layout_of m.version).attribute_bytes + (layout_of m.version).link_bytes * order_of place.link)
 
 -- the number of an object at an address, a byte or a word
-unfoldable pub number_at : MemoryMap → ℕ → Result ℕ Fault
-number_at m a = if (layout_of m.version).link_bytes == 1 then byte_at m a else word_at m a
+unfoldable pub object_number_at : MemoryMap → ℕ → Result ℕ Fault
+object_number_at m a = if (layout_of m.version).link_bytes == 1 then byte_at m a else word_at m a
 
 -- the memory with the number of an object put there
 unfoldable pub number_put : MemoryMap → ℕ → ℕ → Result MemoryMap Fault
@@ -52,7 +52,7 @@ number_put m a o = if (layout_of m.version).link_bytes == 1 then byte_put m a (o
 
 -- the object that a link names, or 0; object 0 has no links (section 12.3)
 unfoldable pub link_at : MemoryMap → LinkPlace → Result ℕ Fault
-link_at m place = if place.object == 0 then Ok 0 else (address_of m place >>= number_at m)
+link_at m place = if place.object == 0 then Ok 0 else (address_of m place >>= object_number_at m)
 
 -- the memory with one link changed
 unfoldable pub link_put : MemoryMap → LinkPlace → ℕ → Result MemoryMap Fault

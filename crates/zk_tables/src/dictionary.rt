@@ -2,12 +2,13 @@
 
 ghost use Rattle.std.specs.Prelude.{◌≡◌, ◌≤◌, ◌<◌, ◌+◌, ◌*◌, IfOk, true, length, get_or, ℕ};
 ghost use Rattle.zk_mem.specs.Map.{readable_end};
-ghost use Rattle.zk_tables.specs.Dictionaries.{key_length, magnitude, dictionary_byte, dictionary_word, dictionary_by};
+ghost use Rattle.zk_tables.specs.Dictionaries.{key_length, dictionary_byte, dictionary_word, dictionary_by};
 ghost use Rattle.zk_tables.specs.Dictionaries.{dictionary_at, IsDictionaryOf, begins_with, is_above, do_not_fall};
 ghost use Rattle.zk_tables.specs.Dictionaries.{bytes_from, front_at, number_at, keys_from, entry_start, has_key};
 ghost use Rattle.zk_tables.specs.Dictionaries.{found_from, found_in};
 ghost use Rattle.zk_tables.specs.Halves.{LinkPlace, entry_key, halved_whole, compared_to_end, compared_by_halves};
 
+use crate::signed::magnitude;
 use zk_mem::fault::Fault;
 use zk_mem::memory::Memory;
 
@@ -50,18 +51,6 @@ fn read_word(memory: &Memory, address: u32) -> Result<u16, Fault>
         return Err(Fault::BadDictionary);
     }
     memory.word(address)
-}
-
-/// How many entries a signed count says.
-fn entries_of(count: u16) -> u16
-    ensures value { result ≡ magnitude count }
-    ensures bound { result ≤ 32768 }
-{
-    if count < 0x8000 {
-        count
-    } else {
-        (65_536 - count as u32) as u16
-    }
 }
 
 /// The bytes of a key: 4 up to version 3, 6 from version 4 on.
@@ -139,7 +128,7 @@ fn dictionary_with(
     requires { address < 65536 }
     ensures { result ≡ dictionary_by memory.now address separators entry_length count }
 {
-    let entries = entries_of(count);
+    let entries = magnitude(count);
     let first = address + separators as u32 + 4;
     let end = first + entry_length as u32 * entries as u32;
     if entry_length < key_bytes(memory) || memory.data_end() < end {

@@ -12,6 +12,7 @@ pub mod links;
 pub mod lists;
 pub mod parsing;
 pub mod properties;
+mod signed;
 mod tokens;
 pub mod tree;
 pub mod words;

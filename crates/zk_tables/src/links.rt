@@ -2,7 +2,8 @@
 
 ghost use Rattle.std.specs.Prelude.{◌≡◌, ◌≤◌, ◌<◌, ◌+◌, [], ◌∷◌, Ok, Err, IfOk, MatchResult};
 ghost use Rattle.zk_tables.specs.Layout.{layout_of};
-ghost use Rattle.zk_tables.specs.Links.{address_of, number_at, number_put, link_at, link_put, write_test, write_tests};
+ghost use Rattle.zk_tables.specs.Links.{address_of, object_number_at, number_put, link_at, link_put, write_test};
+ghost use Rattle.zk_tables.specs.Links.{write_tests};
 ghost use Rattle.zk_tables.specs.Links.{order_of, parent_of, sibling_of, child_of, walked_link};
 
 use crate::layout::{EARLY, LATE, Layout, entry_in, layout_for};
@@ -106,9 +107,9 @@ pub(crate) fn address(memory: &Memory, place: LinkPlace) -> Result<u32, Fault>
 }
 
 #[inline(always)]
-#[tactic(auto, unfolding(crate::specs::Links::number_at))]
+#[tactic(auto, unfolding(crate::specs::Links::object_number_at))]
 fn read_number(memory: &Memory, address: u32) -> Result<u16, Fault>
-    ensures { result ≡ number_at memory.now address }
+    ensures { result ≡ object_number_at memory.now address }
 {
     if layout_for(memory).link_bytes == 1 {
         Ok(memory.byte(address)? as u16)

@@ -39,14 +39,15 @@ use Rattle.zk_vm.specs.Going.{stop_by, IsPut, Settles}
 use Rattle.zk_vm.specs.Halts.{Halt, IsKeeping, IsLeftAt, IsStep, KeepsState, StepsTo, halt_by}
 use Rattle.zk_vm.specs.Sessions.{Session}
 use Rattle.zk_vm.specs.Sound.{state_seen, IsOfStory, IsSound}
-use Rattle.zk_vm.specs.Step.{State, Step, Verdict, asked, back_to, fetched, settled, goes_by, goes_to, is_past_reads}
+use Rattle.zk_vm.specs.Step.{State, Step, Verdict, asked, back_to, fetched, settled, verdict_within, goes_to}
+use Rattle.zk_vm.specs.Step.{is_past_reads}
 use Rattle.zk_vm.specs.Step.{is_read, kept_answer, led_to, most_reads, state_after, step, text_of, text_within}
 use Rattle.zk_vm.specs.Step.{verdict_of, waits_by, with_kept}
 use Rattle.zk_vm.specs.Step.Step.{Goes, Waits as Awaits, Quits, Faults, Exceeds}
 use Rattle.zk_vm.specs.Step.Verdict.{GoesOn, WaitsFor, StopsBy}
 use Rattle.zk_step.specs.declared.state.game_state.View.{View}
 use Rattle.zk_step.specs.declared.state.game_state.View.TheVariants as view
-use Rattle.zk_step.specs.View.{viewed, viewed_by, lines_shown, rows_shown, status_shown}
+use Rattle.zk_step.specs.View.{viewed, viewed_by, lines_shown, rows_shown, status_text}
 use Rattle.zk_vm.proofs.Going.{stops_by}
 use Rattle.zk_vm.proofs.Keeping.{seen, same_states}
 use Rattle.zk_vm.specs.declared.limits.Limits.{Limits}
@@ -135,7 +136,7 @@ left_moved : (old new : Session) (w : GameState) (u : List WholeState) (x : Step
     (state_after (record old.state { game = w; undo = u }) x)
     → IsLeftAt old new (verdict_of old.state x) (state_after old.state x)
 left_moved old new w u (Goes t text) put =
-    left_goes old new w u (goes_by old.state.pc (within_bounds t.game.frames)) t put
+    left_goes old new w u (verdict_within old.state.pc (within_bounds t.game.frames)) t put
 left_moved old new w u (Awaits t waiting text) put =
     left_goes old new w u (verdict_of old.state (Awaits t waiting text)) t put
 left_moved old new w u Quits put = put.1
@@ -293,7 +294,7 @@ stepped_on {S} shows a b m i w p t h told shown =
     let at = at_step (state_seen m) i w p t h told in
     let same = same_states m.game.memory w.memory m.undo (carried_fixed m.game i w (At p) t told) in
     let to : State = record (state_seen m) { game = w; pc = p; steps = m.steps + 1 } in
-    let verdict : goes_by m.pc (within_bounds w.frames) ≡ GoesOn = ap (goes_by m.pc) at.1.1 in
+    let verdict : verdict_within m.pc (within_bounds w.frames) ≡ GoesOn = ap (verdict_within m.pc) at.1.1 in
     let text : text_within (within_bounds w.frames) t ≡ t = ap (λ (q : Result FrameList Refusal). text_within q t)
     at.1.1 in
     let left : seen (record m { game = w; pc = p; steps = m.steps + 1 }) ≡ record (seen m)
@@ -330,7 +331,7 @@ pub err_step : (s : State) (i : Instr) (r : Result (GameState × (Next × Texts)
     × (text_of s (settled s i r) ≡ no_text)
 err_step s i (Ok (w, (At p, t))) e h =
     let over = kept_err (within_bounds w.frames) (w, (At p, t)) e h in
-    (ap (goes_by s.pc) over ∙ stops_by s.pc e, ap (λ (q : Result FrameList Refusal). text_within q t) over)
+    (ap (verdict_within s.pc) over ∙ stops_by s.pc e, ap (λ (q : Result FrameList Refusal). text_within q t) over)
 err_step s i (Ok (w, (Asks x, t))) e h = absurd cc
 err_step s i (Err f) e h =
     let is : refusal.Fault f ≡ e = cc in (ap (λ (x : Refusal). StopsBy (stop_by s.pc x)) is, refl)
@@ -366,7 +367,7 @@ viewed_memory_by : (view : View) (w v : GameState) (t : Texts) → viewed_by vie
 viewed_memory_by view.Plain w v t h =
     let same : ◌≡◌ {A = GameState × Texts} (w, no_text) (v, t) = cc in
     sym (ap (λ (q : GameState × Texts). q.0.memory) same)
-viewed_memory_by view.Upper w v t h = go (status_shown w.memory) h
+viewed_memory_by view.Upper w v t h = go (status_text w.memory) h
   where
     go : (r : Result (List ℕ) Fault)
         → (r >>= λ status. Ok (lines_shown w (status ++ rows_shown w.windows 1 w.windows.height))) ≡ Ok (v, t)

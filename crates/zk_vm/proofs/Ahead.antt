@@ -21,7 +21,7 @@ use Rattle.zk_vm.specs.declared.machine.Machine.TheInside.{Inside}
 use Rattle.zk_vm.specs.Going.{GoesAhead, IsAhead, StopsAhead, after_steps, stop_by}
 use Rattle.zk_vm.specs.Halts.{Halt}
 use Rattle.zk_vm.specs.Sessions.{Session}
-use Rattle.zk_vm.specs.Step.{State, goes_by, step, state_after, text_of, text_within, verdict_of}
+use Rattle.zk_vm.specs.Step.{State, verdict_within, step, state_after, text_of, text_within, verdict_of}
 use Rattle.zk_vm.specs.Step.Verdict.{GoesOn, StopsBy}
 use Rattle.zk_vm.specs.Sound.{IsOfStory, IsSound, state_seen}
 use Rattle.zk_vm.proofs.Advancing.{at_step, carried_fixed, err_step, fetched_is}
@@ -39,7 +39,7 @@ silent_step s v q quiet =
     let at = at_step s quiet.instruction v q no_text quiet.fetched quiet.carried in
     record {
       after = ap (state_after s) at.0;
-      goes = ap (verdict_of s) at.0 ∙ ap (goes_by s.pc) at.1.1;
+      goes = ap (verdict_of s) at.0 ∙ ap (verdict_within s.pc) at.1.1;
       shows = ap (text_of s) at.0 ∙ ap (λ (r : Result FrameList Refusal). text_within r no_text) at.1.1;
     }
 

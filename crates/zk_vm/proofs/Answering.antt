@@ -36,7 +36,7 @@ use Rattle.zk_vm.specs.Sessions.{Session, given, resumed as resumed_as}
 use Rattle.zk_vm.specs.Plays.{AsksForLine}
 use Rattle.zk_vm.specs.Sound.{state_seen, IsOfStory, IsSound}
 use Rattle.zk_mem.specs.declared.fault.Fault.{Fault}
-use Rattle.zk_vm.specs.Step.{State, Step, Verdict, back_to, goes_by, goes_to, is_read, is_past_reads, most_reads}
+use Rattle.zk_vm.specs.Step.{State, Step, Verdict, back_to, verdict_within, goes_to, is_read, is_past_reads, most_reads}
 use Rattle.zk_vm.specs.Step.{state_after, verdict_of}
 use Rattle.zk_vm.specs.Step.Verdict.{GoesOn, WaitsFor, StopsBy}
 use Rattle.zk_vm.proofs.Going.{Told, told_on, file_answered, limit_answered, read_answered, reading}
@@ -347,7 +347,7 @@ goes_never_waits : (s : State) (undo : List WholeState) (r : Result (GameState �
     → is_waiting_verdict (verdict_of s (goes_to s undo r)) ≡ false
 goes_never_waits s undo (Ok found) = by_frames (within_bounds found.0.frames)
   where
-    by_frames : (r : Result FrameList Refusal) → is_waiting_verdict (goes_by s.pc r) ≡ false
+    by_frames : (r : Result FrameList Refusal) → is_waiting_verdict (verdict_within s.pc r) ≡ false
     by_frames (Ok f) = refl
     by_frames (Err (refusal.Limit l)) = refl
     by_frames (Err (refusal.Fault f)) = refl

@@ -42,7 +42,7 @@ use Rattle.zk_vm.specs.Log.{Move, after, goes_by, is_silent, moved, moved_by, pa
 use Rattle.zk_vm.specs.Log.{stepped_to, text_left, text_shown}
 use Rattle.zk_vm.specs.Log.Move.{Gets, Goes, Part}
 use Rattle.zk_vm.specs.Sessions.{Session, begun, resumed}
-use Rattle.zk_vm.specs.Step.{State, Step, Verdict, goes_by as goes_within, is_past_reads, saved_pc, state_after, step}
+use Rattle.zk_vm.specs.Step.{State, Step, Verdict, verdict_within, is_past_reads, saved_pc, state_after, step}
 use Rattle.zk_vm.specs.Step.{verdict_of}
 use Rattle.zk_vm.specs.Step.Step.{Goes as GoesTo, Waits, Quits, Faults, Exceeds}
 use Rattle.zk_vm.specs.Step.Verdict.{GoesOn, WaitsFor, StopsBy}
@@ -246,7 +246,7 @@ module _ (P : ℕ → Type 0) where
   IsReadBy (Some stop) = IsReadStop stop
 
   goes_read : (pc : ℕ) (r : Result FrameList Refusal) → ((f : Fault) → r ≡ Err (refused.Fault f) → ⊥)
-      → IsReadOn (goes_within pc r)
+      → IsReadOn (verdict_within pc r)
   goes_read pc (Ok u) h = tt
   goes_read pc (Err (refused.Limit m)) h = tt
   goes_read pc (Err (refused.Fault f)) h = absurd (h f refl)

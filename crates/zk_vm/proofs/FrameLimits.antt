@@ -35,11 +35,12 @@ use Rattle.zk_vm.specs.declared.limits.Limits.{Limits}
 use Rattle.zk_vm.specs.declared.waiting.Waiting.{Waiting}
 use Rattle.zk_vm.specs.declared.stop.Stop.TheVariants.{Limit as LimitAt}
 use Rattle.zk_vm.specs.Step.{State, Step, Verdict, asked, is_read, step, step_by, fetched, settled, led_to, waits_by}
-use Rattle.zk_vm.specs.Step.{verdict_of, text_of, state_after, back_to, goes_by, goes_to, is_past_reads, kept_answer}
+use Rattle.zk_vm.specs.Step.{verdict_of, text_of, state_after, back_to, verdict_within, goes_to, is_past_reads}
+use Rattle.zk_vm.specs.Step.{kept_answer}
 use Rattle.zk_vm.specs.Step.{text_within, most_reads, view_before, with_kept}
 use Rattle.zk_vm.specs.Step.Step.{Goes, Waits, Quits, Faults, Exceeds}
 use Rattle.zk_vm.specs.Step.Verdict.{GoesOn, WaitsFor, StopsBy}
-use Rattle.zk_step.specs.View.{viewed, viewed_by, lines_shown, rows_shown, status_shown}
+use Rattle.zk_step.specs.View.{viewed, viewed_by, lines_shown, rows_shown, status_text}
 use Rattle.zk_vm.proofs.OneStep.{goes_same, step_all}
 use Rattle.zk_vm.proofs.Sounds.{back_fixed}
 use Rattle.zk_vm.specs.Laws.{IsNoFrameStop, IsWithin, state_in}
@@ -69,7 +70,7 @@ lines_same f m w (c ∷ cs) = refl
 
 viewed_by_same : (f m : ℕ) (v : View) (w : GameState) → viewed_by v (rebounded f m w) ≡ moved_in f m (viewed_by v w)
 viewed_by_same f m view.Plain w = refl
-viewed_by_same f m view.Upper w = go (status_shown w.memory)
+viewed_by_same f m view.Upper w = go (status_text w.memory)
   where
     go : (r : Result (List ℕ) Fault)
         → (r >>= λ status. Ok (lines_shown (rebounded f m w) (status ++ rows_shown w.windows 1 w.windows.height)))
@@ -225,8 +226,8 @@ pub verdict_same : (f m : ℕ) (s : State) (x : Step)
 unfolding step_in
 verdict_same f m s (Goes t text) bounds own = go (within_bounds t.game.frames) refl own
   where
-    go : (r : Result FrameList Refusal) → within_bounds t.game.frames ≡ r → IsNoFrameVerdict (goes_by s.pc r)
-        → (goes_by s.pc (within_bounds (with_bounds f m t.game.frames)) ≡ goes_by s.pc r)
+    go : (r : Result FrameList Refusal) → within_bounds t.game.frames ≡ r → IsNoFrameVerdict (verdict_within s.pc r)
+        → (verdict_within s.pc (within_bounds (with_bounds f m t.game.frames)) ≡ verdict_within s.pc r)
         × (text_within (within_bounds (with_bounds f m t.game.frames)) text ≡ text_within r text)
         × (state_in f m t ≡ state_in f m t)
     go (Ok u) e k =

@@ -17,7 +17,7 @@ use Rattle.zk_vm.specs.Answers.{Answer, answered, answer_settled}
 use Rattle.zk_vm.specs.Going.{stop_by, verdict_by, pc_by, steps_by, stopped_by, IsPut, Settles}
 use Rattle.zk_vm.specs.Halts.{Halt, IsLeftAs, halt_by}
 use Rattle.zk_vm.specs.Sessions.{Session, given, given_to, resumed}
-use Rattle.zk_vm.specs.Step.{State, Step, Verdict, goes_by, goes_to, step_by, verdict_of, state_after}
+use Rattle.zk_vm.specs.Step.{State, Step, Verdict, verdict_within, goes_to, step_by, verdict_of, state_after}
 use Rattle.zk_vm.specs.Step.Step.{Goes, Exceeds}
 use Rattle.zk_vm.specs.Step.Verdict.{GoesOn, WaitsFor, StopsBy}
 use Rattle.zk_step.proofs.WithinBounds.{pc_is}
@@ -31,7 +31,7 @@ pub told_on : {P : Type 0} (led : Result ℕ Refusal) (r : Result (GameState × 
 told_on {P} (Ok p) r w told h q e = h p (pc_is r (w, p) told)
 told_on {P} (Err f) r w told h q e = absurd cc
 
-pub stops_by : (pc : ℕ) (e : Refusal) → goes_by pc (Err e) ≡ StopsBy (stop_by pc e)
+pub stops_by : (pc : ℕ) (e : Refusal) → verdict_within pc (Err e) ≡ StopsBy (stop_by pc e)
 stops_by pc (refusal.Fault f) = refl
 stops_by pc (refusal.Limit l) = refl
 
@@ -40,7 +40,7 @@ abbrev goes_in : (GameState × ℕ → State) → GameState × ℕ → Step
 goes_in next x = Goes (next x) no_text
 
 within_told : (pc : ℕ) (x : GameState × ℕ) (q : Result FrameList Refusal) (led : Result ℕ Refusal) (w : GameState)
-    → Told led (kept {B = GameState × ℕ} q x) w → goes_by pc q ≡ verdict_by pc led
+    → Told led (kept {B = GameState × ℕ} q x) w → verdict_within pc q ≡ verdict_by pc led
 within_told pc x (Ok u) (Ok p) w told = refl
 within_told pc x (Ok u) (Err e) w told = absurd cc
 within_told pc x (Err d) (Ok p) w told = absurd cc
@@ -56,7 +56,7 @@ verdict_told : (s : State) (next : GameState × ℕ → State) → ((x : GameSta
     → (r : Result (GameState × ℕ) Fault) (led : Result ℕ Refusal) (w : GameState) → Told led (limited_pc r) w
     → verdict_of s (step_by (goes_in next) r) ≡ verdict_by s.pc led
 verdict_told s next same (Ok x) led w told =
-    ap (λ (v : GameState). goes_by s.pc (within_bounds v.frames)) (same x)
+    ap (λ (v : GameState). verdict_within s.pc (within_bounds v.frames)) (same x)
     ∙ within_told s.pc x (within_bounds x.0.frames) led w told
 verdict_told s next same (Err f) led w told = fault_told s.pc f led w told
 

@@ -14,7 +14,7 @@ use Rattle.zk_vm.specs.declared.stop.Stop.{Stop}
 use Rattle.zk_vm.specs.declared.waiting.Waiting.{Waiting}
 use Rattle.zk_vm.specs.Answers.{Answer, answered, answered_by, codes_of, is_kept, file_of}
 use Rattle.zk_vm.specs.Sessions.{Session, given, given_to, resumed}
-use Rattle.zk_vm.specs.Step.{State, Step, Verdict, goes_by as goes_within, state_after, verdict_of}
+use Rattle.zk_vm.specs.Step.{State, Step, Verdict, verdict_within, state_after, verdict_of}
 use Rattle.zk_vm.specs.Step.Step.{Goes as GoesTo, Waits, Quits, Faults, Exceeds}
 use Rattle.zk_vm.specs.Step.Verdict.{GoesOn, WaitsFor, StopsBy}
 use Rattle.zk_vm.specs.Log.{Entry, Move, Passed, IsLeftIn, IsLog, IsPrefix, LogsJoin, address_in, address_told}
@@ -361,7 +361,7 @@ given_logged s w a runs e =
     subst (λ (p : Passed). IsLog s p.entries p.to) (got_to s w a runs e) (log_of_move s (Gets a))
 
 resumed_by : (s : Session) (pc : ℕ) (t : State) (r : Result FrameList Refusal)
-    → (resumed s (goes_within pc r) t).waiting ≡ None
+    → (resumed s (verdict_within pc r) t).waiting ≡ None
 resumed_by s pc t (Ok u) = refl
 resumed_by s pc t (Err (refusal.Limit l)) = refl
 resumed_by s pc t (Err (refusal.Fault f)) = refl

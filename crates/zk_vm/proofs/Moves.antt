@@ -12,7 +12,7 @@ use Rattle.zk_vm.specs.declared.stop.Stop.TheVariants.{Limit}
 use Rattle.zk_vm.specs.declared.waiting.Waiting.{Waiting}
 use Rattle.zk_vm.specs.Answers.{Answer, answered}
 use Rattle.zk_vm.specs.Sessions.{Session, resumed}
-use Rattle.zk_vm.specs.Step.{State, Step, Verdict, goes_by as goes_within, is_past_reads, state_after, step, verdict_of}
+use Rattle.zk_vm.specs.Step.{State, Step, Verdict, verdict_within, is_past_reads, state_after, step, verdict_of}
 use Rattle.zk_vm.specs.Step.Step.{Goes as GoesTo, Waits, Quits, Faults, Exceeds}
 use Rattle.zk_vm.specs.Step.Verdict.{GoesOn, WaitsFor, StopsBy}
 use Rattle.zk_vm.specs.Log.{Entry, Move, Passed, after, goes_by, is_silent, moved, moved_by, parted, parted_to}
@@ -91,8 +91,8 @@ module _ (K : Session → Type 0) (s : Session) (k : K s) where
   steps_kept h (suc n) runs free silent left on = by (step s.state) (text_left s.left s.state) refl on
     where
       goes : (t : State) (text shown : Texts) (r : Result FrameList Refusal) → step s.state ≡ GoesTo t text
-          → within_bounds t.game.frames ≡ r → (stepped_to s (goes_within s.state.pc r) t shown).to.stopped ≡ None
-          → K (stepped_to s (goes_within s.state.pc r) t shown).to
+          → within_bounds t.game.frames ≡ r → (stepped_to s (verdict_within s.state.pc r) t shown).to.stopped ≡ None
+          → K (stepped_to s (verdict_within s.state.pc r) t shown).to
       goes t text shown (Ok u) e i o = h.goes t text u runs free silent refl (omega (arith, left)) e i
       goes t text shown (Err (refusal.Limit l)) e i o = absurd cc
       goes t text shown (Err (refusal.Fault f)) e i o = absurd cc
@@ -138,7 +138,7 @@ module _ (K : Session → Type 0) (s : Session) (k : K s) where
   answer_kept w a h (GoesTo t text) runs there e on = go (within_bounds t.game.frames) refl on
     where
       go : (r : Result FrameList Refusal) → within_bounds t.game.frames ≡ r
-          → (resumed s (goes_within s.state.pc r) t).stopped ≡ None → K (resumed s (goes_within s.state.pc r) t)
+          → (resumed s (verdict_within s.state.pc r) t).stopped ≡ None → K (resumed s (verdict_within s.state.pc r) t)
       go (Ok u) i o = h.gets w a t text u runs there refl e i
       go (Err (refusal.Limit l)) i o = absurd cc
       go (Err (refusal.Fault f)) i o = absurd cc

@@ -42,7 +42,7 @@ use Rattle.zk_vm.specs.Log.{is_silent, text_shown}
 use Rattle.zk_vm.specs.Pausing.{GotDue, StandsHalf}
 use Rattle.zk_vm.specs.Sessions.{Session}
 use Rattle.zk_vm.specs.Sound.{state_seen}
-use Rattle.zk_vm.specs.Step.{State, asked, goes_by, settled, step, text_of, text_within, verdict_of}
+use Rattle.zk_vm.specs.Step.{State, asked, verdict_within, settled, step, text_of, text_within, verdict_of}
 use Rattle.zk_vm.specs.Step.Step.{Goes as GoesTo, Faults}
 use Rattle.zk_vm.specs.Step.Verdict.{GoesOn}
 use Rattle.zk_vm.proofs.Advancing.{fetched_is, stepped_asked, stepped_err, stepped_fault, stepped_on}
@@ -140,7 +140,7 @@ limited_at (Ok u) w p t = refl
 limited_at (Err e) w p t = refl
 
 within_so : (q : Result FrameList Refusal) (x : GameState × Next) (pc : ℕ)
-    → IsOk (kept {B = GameState × Next} q x) → goes_by pc q ≡ GoesOn
+    → IsOk (kept {B = GameState × Next} q x) → verdict_within pc q ≡ GoesOn
 within_so (Ok u) x pc h = refl
 within_so (Err e) x pc h = absurd cc
 
@@ -150,7 +150,7 @@ pub record ShowsHalf (s : State) (i : Instr) : Type 0 where
   pub goes : (is_silent (text_shown (step s)) ≡ true) ⊎ (verdict_of s (step s) ≡ GoesOn)
 
 goes_or_silent : (t : Texts) (q : Result FrameList Refusal) (x : GameState × Next) (pc : ℕ)
-    → (t ≡ no_text) ⊎ IsOk (kept {B = GameState × Next} q x) → (is_silent t ≡ true) ⊎ (goes_by pc q ≡ GoesOn)
+    → (t ≡ no_text) ⊎ IsOk (kept {B = GameState × Next} q x) → (is_silent t ≡ true) ⊎ (verdict_within pc q ≡ GoesOn)
 goes_or_silent t q x pc (inl h) = inl (ap is_silent h)
 goes_or_silent t q x pc (inr h) = inr (within_so q x pc h)
 

@@ -51,7 +51,7 @@ use Rattle.zk_vm.specs.Sessions.{Session}
 use Rattle.zk_vm.specs.Step.{State, Step, asked, back_to, goes_to, is_read, kept_answer, led_to, saved_pc}
 use Rattle.zk_vm.specs.Step.{settled as step_settled, step, view_before, waits_by, with_kept}
 use Rattle.zk_vm.specs.Step.Step.{Goes as GoesTo, Waits}
-use Rattle.zk_step.specs.View.{lines_shown, rows_shown, status_shown, viewed, viewed_by}
+use Rattle.zk_step.specs.View.{lines_shown, rows_shown, status_text, viewed, viewed_by}
 use Rattle.zk_vm.proofs.Moves.{IsKeptBy}
 use Rattle.zk_vm.proofs.OneStep.{step_all}
 use Rattle.zk_vm.proofs.Asking.{asks}
@@ -77,7 +77,7 @@ shown_lines w (c ∷ cs) = record { memory = refl; frames = refl }
 shown_view : (v : View) (w : GameState) → Leaves (ShownBeside w) (viewed_by v w)
 shown_view view.Plain w = gives (shown_none w)
 shown_view view.Upper w =
-    leaves_after (status_shown w.memory) _
+    leaves_after (status_text w.memory) _
     (λ status. gives (shown_lines w (status ++ rows_shown w.windows 1 w.windows.height)))
 
 shown_before : (event : Event) (w : GameState) → Leaves (ShownBeside w) (view_before event w)

@@ -32,15 +32,15 @@ use Rattle.zk_vm.specs.Answers.{limit_of, none_restored, restored_from, restored
 use Rattle.zk_vm.specs.Step.{State, Step, back_to, fetched, is_read, kept_answer, led_to, settled, step, step_by}
 use Rattle.zk_vm.specs.Step.{view_before}
 use Rattle.zk_vm.specs.Step.Step.{Faults}
-use Rattle.zk_step.specs.View.{status_shown, viewed, viewed_by}
+use Rattle.zk_step.specs.View.{status_text, viewed, viewed_by}
 
-status_later : (m : MemoryMap) → Later (status_shown m)
+status_later : (m : MemoryMap) → Later (status_text m)
 status_later m =
     later_if (m.version == 3) (later_then (status_units m) _ (status_units_later m) (λ units. Later.value)) Later.value
 
 view_later : (v : View) (w : GameState) → Later (viewed_by v w)
 view_later view.Plain w = Later.value
-view_later view.Upper w = later_then (status_shown w.memory) _ (status_later w.memory) (λ status. Later.value)
+view_later view.Upper w = later_then (status_text w.memory) _ (status_later w.memory) (λ status. Later.value)
 
 before_later : (event : Event) (w : GameState) → Later (view_before event w)
 unfolding viewed

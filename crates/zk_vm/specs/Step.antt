@@ -134,10 +134,10 @@ pub data Verdict : Type 0 where
   StopsBy : (stop : Stop) → Verdict
 
 -- a step at an address goes on, unless its next state has too many frames or words
-abbrev pub goes_by : ℕ → Result FrameList Refusal → Verdict
-goes_by pc (Ok s) = GoesOn
-goes_by pc (Err (refusal.Limit l)) = StopsBy (stop.Limit pc l)
-goes_by pc (Err (refusal.Fault f)) = StopsBy (stop.Fault pc f)
+abbrev pub verdict_within : ℕ → Result FrameList Refusal → Verdict
+verdict_within pc (Ok s) = GoesOn
+verdict_within pc (Err (refusal.Limit l)) = StopsBy (stop.Limit pc l)
+verdict_within pc (Err (refusal.Fault f)) = StopsBy (stop.Fault pc f)
 
 -- so many reads are answered in a run
 abbrev pub most_reads : ℕ
@@ -149,7 +149,7 @@ is_past_reads reads event = is_read event && nat_le most_reads reads
 
 -- what becomes of a run at a step from an address, after so many reads
 abbrev pub verdict_at : ℕ → ℕ → Step → Verdict
-verdict_at pc reads (Goes s text) = goes_by pc (within_bounds s.game.frames)
+verdict_at pc reads (Goes s text) = verdict_within pc (within_bounds s.game.frames)
 verdict_at pc reads (Waits s waiting text) =
     if is_past_reads reads waiting.wait then StopsBy (stop.Limit pc Reads) else WaitsFor waiting
 verdict_at pc reads Quits = StopsBy stop.Quit

@@ -13,20 +13,21 @@ use std::fs::{self, OpenOptions};
 use std::io;
 use std::os::fd::{AsRawFd, IntoRawFd, RawFd};
 use std::process::ExitCode;
-use zk_command::about::About;
 use zk_command::arguments::{NO_TEXT, argument_of};
 use zk_command::choice::{Choice, choose, story_named, usage_status_of};
-use zk_command::exit::Exit;
-use zk_command::report::report_listing;
-use zk_command::same_file::is_same_file;
 use zk_command::settings::PlayOptions;
-use zk_command::shown::Shown;
-use zk_program::files::paths_listed;
+use zk_program::about::About;
+use zk_program::exit::Exit;
 use zk_program::list::list_all;
 use zk_program::play::{OpenPlay, play};
+use zk_program::report::report_listing;
 use zk_program::suite::{Testing, test};
-use zk_program::told::{out_of_memory, tell_reason};
+use zk_program::told::out_of_memory;
 use zk_program::unpack::unpack;
+use zk_system::files::paths_listed;
+use zk_system::reason::tell_reason;
+use zk_system::same_file::is_same_file;
+use zk_system::shown::Shown;
 use zk_term::io_device::IoDevice;
 use zk_vm::stop::Stop;
 
@@ -129,14 +130,14 @@ fn answer(rt: &HostRuntime, arguments: &[String], paths: Option<&[String]>) -> u
                 stories,
                 roots,
                 options,
-                listing,
+                asked,
             },
         ) => list_all(
             rt,
             stories.as_slice(),
             &roots,
             options,
-            listing,
+            &asked,
             paths.is_some(),
         ),
         _ if !are_text => tell_no_text(rt),

@@ -5,7 +5,8 @@ ghost use Rattle.zk_text.specs.Extra.{own_characters, lower_code};
 ghost use Rattle.zk_step.specs.Laws.{fixed_parts};
 ghost use Rattle.zk_step.specs.StoryWords.{AreWordsOf};
 ghost use Rattle.zk_step.specs.TextBuffers.{taken_letters, ended_by_zero, early_line_put, counted_letters};
-ghost use Rattle.zk_step.specs.TextBuffers.{later_line_put, divided, own_dictionary, line_put, is_filled, later_kept};
+ghost use Rattle.zk_step.specs.TextBuffers.{later_line_put, divided_into_words, own_dictionary, line_put, is_filled};
+ghost use Rattle.zk_step.specs.TextBuffers.{later_kept};
 ghost use Rattle.zk_step.specs.TextBuffers.{kept_of};
 
 use crate::input::story_words::StoryWords;
@@ -69,7 +70,7 @@ fn put_later_line(memory: &mut Memory, text: u16, line: &[u8]) -> Result<(), Fau
 
 /// Divides the text in a text buffer into words, by the dictionary at an address. `words` is what is known of the
 /// story's own.
-#[tactic(auto, unfolding(crate::specs::TextBuffers::divided))]
+#[tactic(auto, unfolding(crate::specs::TextBuffers::divided_into_words))]
 pub fn divide(
     memory: &mut Memory,
     words: &StoryWords,
@@ -80,8 +81,8 @@ pub fn divide(
 ) -> Result<(), Fault>
     requires words { AreWordsOf (fixed_parts memory.old) words.now }
     ensures { MatchResult result
-        (λ _. divided memory.old text parse dictionary leaves_unknown ≡ Ok memory.new)
-        (λ e. divided memory.old text parse dictionary leaves_unknown ≡ Err e) }
+        (λ _. divided_into_words memory.old text parse dictionary leaves_unknown ≡ Ok memory.new)
+        (λ e. divided_into_words memory.old text parse dictionary leaves_unknown ≡ Err e) }
 {
     let dictionary = words.dictionary_at(memory, dictionary)?;
     tokenise(

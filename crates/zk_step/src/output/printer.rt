@@ -4,7 +4,7 @@ ghost use Rattle.std.specs.Prelude.{◌≡◌, [], ◌∷◌, ◌++◌, List, �
 ghost use Rattle.zk_text.specs.declared.unit.Unit.{Unit};
 ghost use Rattle.zk_text.specs.Shown.{shown, characters_shown};
 ghost use Rattle.zk_term.specs.Windows.{printed};
-ghost use Rattle.zk_step.specs.Routing.{code_stored, stored, shown_if, ends_line};
+ghost use Rattle.zk_step.specs.Routing.{code_stored, unit_stored, shown_if, ends_line};
 
 use crate::output::codes::{Codes, Full};
 use zk_term::screen::Screen;
@@ -201,9 +201,9 @@ fn code_stored(extra: &Extra<'_>, code: u16) -> Option<u8>
 
 /// The code that a table of stream 3 gets for a unit of text.
 #[inline(always)]
-#[tactic(auto, unfolding(crate::specs::Routing::stored))]
+#[tactic(auto, unfolding(crate::specs::Routing::unit_stored))]
 fn unit_stored(extra: &Extra<'_>, unit: Unit) -> Option<u8>
-    ensures { option_to_list result ≡ stored extra.now unit }
+    ensures { option_to_list result ≡ unit_stored extra.now unit }
 {
     match unit {
         Unit::Code(code) => code_stored(extra, code),

@@ -9,11 +9,12 @@ use Rattle.std.proofs.lemmas.List.{get_or-drop, get_or-take, length-drop, length
 use Rattle.zk_mem.specs.declared.fault.Fault.{Fault}
 use Rattle.zk_mem.specs.Map.{MemoryMap, readable_end, byte_at, word_at}
 use Rattle.zk_tables.specs.declared.dictionary.Dictionary.{Dictionary}
-use Rattle.zk_tables.specs.Dictionaries.{key_length, magnitude, dictionary_byte, dictionary_word, dictionary_by}
+use Rattle.zk_tables.specs.Dictionaries.{key_length, dictionary_byte, dictionary_word, dictionary_by}
 use Rattle.zk_tables.specs.Dictionaries.{dictionary_at, IsDictionaryOf, parts_at, bytes_from, keys_from}
 use Rattle.zk_tables.specs.Dictionaries.{DictionariesAreTheirBytes}
 use Rattle.zk_tables.proofs.Steps.{bind_ok}
 use Rattle.zk_tables.proofs.Finding.{based, dictionary_inside}
+use Rattle.zk_tables.specs.Signed.{magnitude}
 
 abbrev kept : Dictionary → Result Dictionary Fault
 kept d = Ok d

@@ -12,7 +12,8 @@ use Rattle.zk_tables.specs.declared.links.Link.{Link}
 use Rattle.zk_tables.specs.declared.links.Link.TheVariants.{Parent, Sibling, Child}
 use Rattle.zk_tables.specs.declared.links.LinkPlace.{LinkPlace}
 use Rattle.zk_tables.specs.Layout.{early_layout, late_layout, layout_of, default_words_start, first_entry, entry_of}
-use Rattle.zk_tables.specs.Links.{order_of, address_of, number_at, number_put, link_at, link_put, LinksAreWritten}
+use Rattle.zk_tables.specs.Links.{order_of, address_of, object_number_at, number_put, link_at, link_put}
+use Rattle.zk_tables.specs.Links.{LinksAreWritten}
 use Rattle.zk_tables.proofs.Steps.{bind_ok, chosen, same_value, same_map}
 use Rattle.zk_tables.proofs.Writes.{IsSameShape, layouts, entry_there, entry_takes, entry_same, put_shape, order_small}
 
@@ -132,8 +133,8 @@ unfolding address_of
 address_same m n place s = rw (entry_same m n place.object s, s.version) refl
 
 number_read : (m n : MemoryMap) (a o : ℕ) → ((layout_of m.version).link_bytes ≡ 1 → o < 256)
-    → n.version ≡ m.version → number_put m a o ≡ Ok n → number_at n a ≡ Ok o
-unfolding number_put number_at byte_at word_at
+    → n.version ≡ m.version → number_put m a o ≡ Ok n → object_number_at n a ≡ Ok o
+unfolding number_put object_number_at byte_at word_at
 number_read m n a o fits v h = elim (layouts m.version) [
   | inl e ↦ (let w = byte_is_written m n a (o % 256) (rw e at h) in
       let low : o < 256 = fits (ap (λ (l : Layout). l.link_bytes) e) in
@@ -144,8 +145,8 @@ number_read m n a o fits v h = elim (layouts m.version) [
 
 number_other : (m n : MemoryMap) (a b o : ℕ) → b ≢ a
     → (layout_of m.version ≡ late_layout → (b + 1 ≢ a) × (a + 1 ≢ b)) → n.version ≡ m.version
-    → number_put m a o ≡ Ok n → number_at n b ≡ number_at m b
-unfolding number_put number_at byte_at word_at
+    → number_put m a o ≡ Ok n → object_number_at n b ≡ object_number_at m b
+unfolding number_put object_number_at byte_at word_at
 number_other m n a b o ne apart v h = elim (layouts m.version) [
   | inl e ↦ (let w = byte_writes m n a (o % 256) (rw e at h) in
       let back : byte_at n b ≡ byte_at m b = rw (← w.0) (byte_other m a b (o % 256) ne) in
@@ -174,7 +175,7 @@ link_read m n place o fits h =
 
 other_at : (m n : MemoryMap) (place q : LinkPlace) (o : ℕ) (r : Result ℕ Fault) → q ≢ place → IsSameShape m n
     → (a : ℕ) → address_of m place ≡ Ok a → number_put m a o ≡ Ok n → address_of m q ≡ r
-    → (r >>= number_at n) ≡ (r >>= number_at m)
+    → (r >>= object_number_at n) ≡ (r >>= object_number_at m)
 other_at m n place q o (Err e) ne shape a h k s = refl
 other_at m n place q o (Ok b) ne shape a h k s =
     let differ : b ≢ a = λ z. ne (sym (one_link m place q a h (s ∙ ap (λ (x : ℕ). Ok x) z))) in
@@ -187,7 +188,8 @@ unfolding link_at
 link_other m n place q o ne h =
     let shape = put_shape m n place o h in
     let w = written m n place o h in
-    let same : (address_of m q >>= number_at n) ≡ (address_of m q >>= number_at m) = other_at m n place q o
+    let same : (address_of m q >>= object_number_at n) ≡ (address_of m q >>= object_number_at m) =
+    other_at m n place q o
     (address_of m q) ne shape w.0 w.1 w.2 refl in
     rw (address_same m n q shape, same) refl
 

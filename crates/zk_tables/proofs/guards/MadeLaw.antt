@@ -11,7 +11,7 @@ use Rattle.zk_mem.specs.declared.fault.Fault.TheVariants.{ReadOnly, BadObject, B
 use Rattle.zk_mem.specs.Map.{MemoryMap}
 use Rattle.zk_tables.specs.declared.links.LinkPlace.{LinkPlace}
 use Rattle.zk_tables.specs.Layout.{layout_of, is_entry, entry_of}
-use Rattle.zk_tables.specs.Links.{parent_of, sibling_of, child_of, address_of, number_at, link_at, write_test}
+use Rattle.zk_tables.specs.Links.{parent_of, sibling_of, child_of, address_of, object_number_at, link_at, write_test}
 use Rattle.zk_tables.specs.Links.{write_tests}
 use Rattle.zk_tables.specs.Chain.{IsChain}
 use Rattle.zk_tables.specs.Tree.{naming_in, naming_among, naming_of, removed, inserted}
@@ -65,7 +65,7 @@ naming_address : (m : MemoryMap) (place : LinkPlace) (v : ℕ) → v ≢ 0 → l
 unfolding link_at HasAddress
 naming_address m place v some h = elim (chosen (eqb place.object 0) _ _ _ h) [
   | inl t ↦ absurd (some (same_value v 0 (sym t.1)))
-  | inr t ↦ (let e = bind_ok (address_of m place) (number_at m) v t.1 in (e.0, e.1))
+  | inr t ↦ (let e = bind_ok (address_of m place) (object_number_at m) v t.1 in (e.0, e.1))
 ]
 
 entry_address : (m : MemoryMap) (place : LinkPlace) (a : ℕ) → entry_of m place.object ≡ Ok a → HasAddress m place

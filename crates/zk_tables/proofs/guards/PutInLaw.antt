@@ -9,7 +9,7 @@ use Rattle.std.proofs.lemmas.Cmp.{nat_eq_equiv}
 use Rattle.zk_mem.specs.Map.{MemoryMap, HasBytes}
 use Rattle.zk_tables.specs.declared.links.LinkPlace.{LinkPlace}
 use Rattle.zk_tables.specs.Layout.{late_layout, entry_of}
-use Rattle.zk_tables.specs.Links.{parent_of, sibling_of, child_of, address_of, number_at, link_at, link_put}
+use Rattle.zk_tables.specs.Links.{parent_of, sibling_of, child_of, address_of, object_number_at, link_at, link_put}
 use Rattle.zk_tables.specs.Chain.{IsPath, IsChain}
 use Rattle.zk_tables.specs.Tree.{removed, linked, inserted}
 use Rattle.zk_tables.specs.guards.TreeLaws.{ChangesOnly, IsNaming, IsTakenOut, IsMoved, IsPutIn, InsertionsPutFirst}
@@ -29,8 +29,8 @@ use Rattle.zk_tables.proofs.guards.TakenLaw.{removals_take_out}
 
 -- ---- numbers that a link has
 
-number_small : (m : MemoryMap) (a v : ℕ) → HasBytes m → number_at m a ≡ Ok v → IsSmall m v
-unfolding number_at
+number_small : (m : MemoryMap) (a v : ℕ) → HasBytes m → object_number_at m a ≡ Ok v → IsSmall m v
+unfolding object_number_at
 number_small m a v fits h = elim (layouts m.version) [
   | inl e ↦ (let low : v < 256 = byte_small m a v fits (rw e at h) in record { fits = λ one. low })
   | inr e ↦ record { fits = λ one. let no : late_layout.link_bytes ≡ 1 = rw e at one in absurd (omega arith) }
@@ -40,7 +40,7 @@ link_small : (m : MemoryMap) (q : LinkPlace) (v : ℕ) → HasBytes m → link_a
 unfolding link_at
 link_small m q v fits h = elim (chosen (eqb q.object 0) _ _ _ h) [
   | inl t ↦ (let zero : 0 ≡ v = same_value 0 v t.1 in object_small m v (omega arith))
-  | inr t ↦ (let e = bind_ok (address_of m q) (number_at m) v t.1 in number_small m e.0 v fits e.2)
+  | inr t ↦ (let e = bind_ok (address_of m q) (object_number_at m) v t.1 in number_small m e.0 v fits e.2)
 ]
 
 -- ---- the three links

@@ -6,9 +6,10 @@ use Rattle.zk_mem.specs.Map.{MemoryMap}
 use Rattle.zk_text.specs.declared.unit.Unit.TheVariants.{Code}
 use Rattle.zk_tables.specs.declared.arrays.rectangle.Rectangle.{Rectangle}
 use Rattle.zk_tables.specs.Runs.{bytes_put, places}
-use Rattle.zk_tables.specs.Copying.{magnitude, table_copied}
+use Rattle.zk_tables.specs.Copying.{table_copied}
 use Rattle.zk_tables.specs.Scanning.{scanned}
 use Rattle.zk_tables.specs.Rectangles.{row_at, rows_of, joined_rows}
+use Rattle.zk_tables.specs.Signed.{magnitude}
 
 -- ---- runs of bytes (section 1.1)
 

@@ -4,10 +4,11 @@ ghost use Rattle.std.specs.Prelude.{◌≡◌, ◌≤◌, ◌<◌, ◌+◌, ◌%
 ghost use Rattle.std.specs.Prelude.{MatchResult, length, min, true};
 ghost use Rattle.zk_mem.specs.Map.{readable_end};
 ghost use Rattle.zk_tables.specs.Runs.{places, bytes_stored};
-ghost use Rattle.zk_tables.specs.Copying.{byte_copied, copied_at_once, copied_forwards, cleared, magnitude};
+ghost use Rattle.zk_tables.specs.Copying.{byte_copied, copied_at_once, copied_forwards, cleared};
 ghost use Rattle.zk_tables.specs.Copying.{table_copied};
 
 use crate::arrays::runs::{check_bytes, place};
+use crate::signed::magnitude;
 use zk_mem::fault::Fault;
 use zk_mem::memory::Memory;
 
@@ -140,17 +141,6 @@ fn clear(memory: &mut Memory, table: u16, size: u16) -> Result<(), Fault>
     Ok(())
 }
 
-/// A size without its sign.
-fn without_sign(size: u16) -> u16
-    ensures { result ≡ magnitude size }
-{
-    if size < 32768 {
-        size
-    } else {
-        size.wrapping_neg()
-    }
-}
-
 /// Copies so many bytes of a table to another (Z-Machine Standards Document 1.1, section 15, `copy_table`): as if at
 /// once where the size is positive, and byte by byte from the first on where it is negative. Where the address of the
 /// second table is 0, bytes of the first become 0. Addresses are sums of 16 bits.
@@ -164,10 +154,10 @@ pub fn copy_table(memory: &mut Memory, first: u16, second: u16, size: u16) -> Re
         (λ e. table_copied memory.old first second size ≡ Err e) }
 {
     if second == 0 {
-        clear(memory, first, without_sign(size))
+        clear(memory, first, magnitude(size))
     } else if size < 32768 {
         copy_at_once(memory, first, second, size)
     } else {
-        copy_in_order(memory, first, second, without_sign(size))
+        copy_in_order(memory, first, second, magnitude(size))
     }
 }

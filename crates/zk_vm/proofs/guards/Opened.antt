@@ -44,7 +44,7 @@ use Rattle.zk_step.specs.View.{viewed, rows_shown, lines_shown}
 use Rattle.zk_vm.specs.Answers.{answered}
 use Rattle.zk_step.specs.Inputs.{reading, line_answered, result_answered, character_answered}
 use Rattle.zk_tables.specs.Runs.{bytes_put}
-use Rattle.zk_step.specs.TextBuffers.{early_line_put, later_line_put, divided, line_put, kept_of}
+use Rattle.zk_step.specs.TextBuffers.{early_line_put, later_line_put, divided_into_words, line_put, kept_of}
 use Rattle.zk_term.specs.Lines.{while_short, heard}
 use Rattle.zk_term.specs.Characters.{begins_with_characters, character_length, characters_past, line_codes}
 use Rattle.zk_term.specs.Characters
@@ -73,7 +73,7 @@ unfolding step passed woven parts_of after begun goes_by_variable loads_file Non
     ascii_capitals extra_capitals z_characters bounds_of sizes_of within_bounds pushed popped top_of with_top
     local_of with_local Frames.called left unwound taken given_back header_of unit_length byte_at word_at byte_put
     word_put cell_at code_word_at words_in words_at text_end_at with_fields fresh viewed answered reading
-    line_answered result_answered character_answered bytes_put early_line_put later_line_put divided line_put
+    line_answered result_answered character_answered bytes_put early_line_put later_line_put divided_into_words line_put
     while_short heard begins_with_characters character_length characters_past Characters.characters_of line_codes
     rows_shown lines_shown window_effect stream_selected stream_changed upper_printed kept_of split window_selected
     character_printed next_row printed without_last_blanks columns_from row_text on_grid no_cells emptied cell_put
@@ -94,7 +94,7 @@ unfolding step passed woven after begun shifted_left shifted_right sign_shifted 
     bounds_of sizes_of within_bounds pushed popped top_of with_top local_of with_local Frames.called left unwound
     taken given_back header_of unit_length byte_at word_at byte_put word_put cell_at code_word_at words_in words_at
     text_end_at with_fields fresh viewed answered reading line_answered result_answered character_answered bytes_put
-    early_line_put later_line_put divided line_put while_short heard begins_with_characters character_length
+    early_line_put later_line_put divided_into_words line_put while_short heard begins_with_characters character_length
     characters_past Characters.characters_of line_codes saving resumed windows_closed again settled gone_back
     form_in loaded restored put_in_place
 saving_examples = tt

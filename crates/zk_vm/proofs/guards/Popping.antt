@@ -16,7 +16,7 @@ use Rattle.zk_step.specs.Routing.{Texts, no_text}
 use Rattle.zk_step.specs.Variables.{named_read, operand_read, operands_read, variable_read, with_frames}
 use Rattle.zk_step.proofs.FixedParts.{Leaves, gives, fails, leaves_then, leaves_after, leaves_if, value_left}
 use Rattle.zk_vm.specs.Step.{is_read, view_before}
-use Rattle.zk_step.specs.View.{lines_shown, rows_shown, status_shown, viewed, viewed_by}
+use Rattle.zk_step.specs.View.{lines_shown, rows_shown, status_text, viewed, viewed_by}
 
 -- the memory and the frames are the same, but for words that were taken
 pub record Pops (w v : GameState) : Type 0 where
@@ -79,7 +79,7 @@ lines_pop w (c ∷ cs) = record { memory = refl; bounds = refl; frames = omega a
 viewed_pops_by : (v : View) (w : GameState) → Leaves (PopsTo w) (viewed_by v w)
 viewed_pops_by view.Plain w = gives (pops_none w)
 viewed_pops_by view.Upper w =
-    leaves_after (status_shown w.memory) _
+    leaves_after (status_text w.memory) _
     (λ status. gives (lines_pop w (status ++ rows_shown w.windows 1 w.windows.height)))
 
 viewed_pops : (w : GameState) → Leaves (PopsTo w) (viewed w)

@@ -1,6 +1,7 @@
 use Rattle.std.proofs.Common.{◌∙◌, add-one, sym, ap₂}
 use Rattle.std.proofs.lemmas.List.{take_all}
 use Rattle.clap.specs.Words.{with_rule}
+use Rattle.zk_command.specs.CommandLine.{option_rule}
 use Rattle.zk_command.proofs.CommandLines.{rules_more}
 use Rattle.zk_command.proofs.choice.command_of.Goals as goal
 
@@ -9,7 +10,7 @@ loop-option-preserved c = record {
   shape =
       rw (add-one c.loop-option.option-index) (c.in_ok-command.ensures.shape
       ∙ ap₂ with_rule c.loop-option.invariant.shape c.option_of.ensures.rule
-      ∙ sym (rules_more _ c.args.table.options.now c.loop-option.option-index _ c.loop-option-test.true));
+      ∙ sym (rules_more option_rule _ c.args.table.options.now c.loop-option.option-index _ c.loop-option-test.true));
   local = c.in_ok-command.ensures.local;
 }
 

@@ -4,7 +4,7 @@ use Rattle.zk_mem.specs.Header.{header_of}
 use Rattle.zk_mem.specs.Map.{byte_at, word_at}
 use Rattle.zk_mem.specs.declared.fault.Fault.{Fault}
 use Rattle.zk_tables.specs.Layout.{layout_of, is_entry_in, is_entry, entry_of}
-use Rattle.zk_tables.specs.Links.{address_of, number_at, link_at}
+use Rattle.zk_tables.specs.Links.{address_of, object_number_at, link_at}
 use Rattle.zk_tables.specs.Properties.{table_of}
 use Rattle.zk_inspect.specs.guards.CheckExamples.{objects_with}
 use Rattle.zk_inspect.proofs.examples.listed_by_example.Goals as goal
@@ -61,7 +61,7 @@ unfolding header_of
 returns-clause-no_table_no_objects c = λ o entry l. l.tabled refl
 
 pub returns-clause-links_lead_past : goal.returns-clause-links_lead_past
-unfolding word_at byte_at header_of layout_of is_entry_in is_entry entry_of address_of number_at link_at
+unfolding word_at byte_at header_of layout_of is_entry_in is_entry entry_of address_of object_number_at link_at
 returns-clause-links_lead_past c = (
   record { named = 2; some = λ e. cc; past = λ entry l. let e = l.stands in cc; names = inl refl },
   record { named = 2; some = λ e. cc; past = λ entry l. let e = l.stands in cc; names = inr (inl refl) },

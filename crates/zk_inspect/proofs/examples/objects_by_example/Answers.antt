@@ -17,7 +17,7 @@ use Rattle.zk_term.specs.Numbers.{hex_digits, address_digits, word_digits, byte_
 use Rattle.zk_inspect.specs.Listing.{quoted_bytes, units_text}
 use Rattle.zk_tables.specs.Layout.{layout_of, is_entry_in, is_entry, entry_of}
 use Rattle.zk_tables.specs.Attributes.{attribute_at}
-use Rattle.zk_tables.specs.Links.{address_of, number_at, link_at}
+use Rattle.zk_tables.specs.Links.{address_of, object_number_at, link_at}
 use Rattle.zk_tables.specs.PropertyList.{list_byte, property_by, property_at, properties_from, properties_at}
 use Rattle.zk_tables.specs.Properties.{table_of, list_of, properties_of, name_of}
 use Rattle.zk_inspect.specs.ObjectLines.{name_text, label_text, links_text, attributes_of, property_text}
@@ -29,7 +29,7 @@ unfoldable opened : ⊤
 unfolding digits encode_utf8 byte_at word_at cell_at code_word_at header_of unit_length words_in words_at
     text_end_at alphabet_table letter_by standard_letters standard_characters unicode_table own_characters character
     values abbreviation text_units pieces_past z_characters shown shown_all hex_digits address_digits word_digits
-    byte_digits quoted_bytes units_text layout_of is_entry_in is_entry entry_of attribute_at address_of number_at
+    byte_digits quoted_bytes units_text layout_of is_entry_in is_entry entry_of attribute_at address_of object_number_at
     link_at list_byte property_by property_at properties_from properties_at table_of list_of properties_of name_of
     name_text label_text links_text attributes_of property_text properties_text object_line
 opened = tt

@@ -26,7 +26,7 @@ use Rattle.zk_inspect.specs.Listing.{branch_text, quoted_bytes, units_text, text
 use Rattle.zk_inspect.specs.Listing.{routine_line, code_facts}
 use Rattle.zk_tables.specs.Layout.{layout_of, is_entry_in, is_entry, entry_of}
 use Rattle.zk_tables.specs.Attributes.{attribute_at}
-use Rattle.zk_tables.specs.Links.{address_of, number_at, link_at}
+use Rattle.zk_tables.specs.Links.{address_of, object_number_at, link_at}
 use Rattle.zk_tables.specs.PropertyList.{list_byte, property_by, property_at, properties_from, properties_at}
 use Rattle.zk_tables.specs.Properties.{table_of, list_of, properties_of, name_of as name_of_object}
 use Rattle.zk_inspect.specs.ObjectLines.{name_text, label_text, links_text, attributes_of, property_text}
@@ -51,7 +51,7 @@ unfolding digits encode_utf8 byte_at word_at cell_at code_word_at header_of unit
     branch_target jump_target count_at constant_jump jump_address hex_digits address_digits word_digits byte_digits
     variable_text operand_text first_text operands_text store_text target_text branch_text quoted_bytes units_text
     text_text instruction_text address_line routine_line code_facts layout_of is_entry_in is_entry entry_of
-    attribute_at address_of number_at link_at list_byte property_by property_at properties_from properties_at
+    attribute_at address_of object_number_at link_at list_byte property_by property_at properties_from properties_at
     table_of list_of properties_of name_text label_text links_text attributes_of property_text properties_text
     object_line shortened short_text routine_note constant_note operand_notes place_note notes noted_line word_text
     global_name global_line extension_line extension_facts code_text alphabet_line quoted_units byte_text

@@ -16,7 +16,7 @@ use Rattle.zk_text.specs.Shown.{shown, shown_all}
 use Rattle.zk_term.specs.Numbers.{hex_digits, address_digits, word_digits, byte_digits}
 use Rattle.zk_inspect.specs.Listing.{quoted_bytes, units_text}
 use Rattle.zk_tables.specs.Layout.{layout_of, is_entry_in, is_entry, entry_of}
-use Rattle.zk_tables.specs.Links.{address_of, link_at, number_at}
+use Rattle.zk_tables.specs.Links.{address_of, link_at, object_number_at}
 use Rattle.zk_tables.specs.PropertyList.{list_byte}
 use Rattle.zk_tables.specs.Properties.{table_of, name_of}
 use Rattle.zk_inspect.specs.ObjectLines.{name_text, label_text}
@@ -41,5 +41,5 @@ unfolding opened
 returns-clause-rows_again c = (refl, refl)
 
 pub returns-clause-roots_name_no_parent : goal.returns-clause-roots_name_no_parent
-unfolding byte_at cell_at header_of layout_of is_entry_in is_entry entry_of address_of number_at link_at
+unfolding byte_at cell_at header_of layout_of is_entry_in is_entry entry_of address_of object_number_at link_at
 returns-clause-roots_name_no_parent c = (refl, λ e. absurd cc, λ e. absurd cc)

@@ -1,6 +1,0 @@
-use Rattle.std.proofs.Common.{inr, refl}
-use Rattle.zk_command.proofs.Listings.{has_path}
-use Rattle.zk_command.proofs.listing.leave_out.Goals as goal
-
-pub returns-in-Err : goal.returns-in-Err
-returns-in-Err g c = inr (refl, c.in-Err.ensures.failed, has_path _ _ _ c.in-Err.ensures.alone refl)

@@ -1,5 +1,0 @@
-use Rattle.zk_command.proofs.Verdicts.{starts}
-use Rattle.zk_command.proofs.listing.open_listed.Goals as goal
-
-pub returns-in-Ok-start : goal.returns-in-Ok-start
-returns-in-Ok-start g c = starts c.in-Ok-start.memory c.in-Ok.story 16 c.in-Ok-start.ensures c.in-Ok.ensures.1

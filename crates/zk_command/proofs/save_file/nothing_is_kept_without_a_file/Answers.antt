@@ -1,5 +1,0 @@
-use Rattle.zk_command.proofs.NoFile.{nothing_is_kept}
-use Rattle.zk_command.proofs.save_file.nothing_is_kept_without_a_file.Goals as goal
-
-pub returns : goal.returns
-returns c = nothing_is_kept

@@ -1,0 +1,5 @@
+pub mod Plays
+pub mod Readings
+pub mod Reports
+pub mod Verdicts
+pub mod Listings

@@ -1,0 +1,6 @@
+pub mod LastLine
+pub mod Playing
+pub mod Status
+pub mod Headings
+pub mod Listing
+pub mod Verdict

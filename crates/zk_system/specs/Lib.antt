@@ -1,0 +1,4 @@
+pub mod SaveFiles
+pub mod ScriptFiles
+pub mod NoFile
+pub mod Records
