@@ -4,9 +4,10 @@
 usage: docs/options.py [--write]
 
 The table of options is crates/zk_command/src/options.rt. From it come the usage in README.md, the manual and
-docs/zkit.1, and the ranges and defaults in the manual's table, in the page for man and in include/zkit.h. The words of
-findings are those of crates/zk_inspect/src/check/finding.rt. From it come the manual's table of them, and the words in
-the page. Without --write it tells which of these say something else, and the status is then 1.
+docs/zkit.1, and the ranges and defaults in the manual's table, in the page for man and in include/zkit.h. The options
+of sections are those of crates/zk_inspect/src/section.rt. The words of findings are those of
+crates/zk_inspect/src/check/finding.rt. From it come the manual's table of them, and the words in the page. Without
+--write it tells which of these say something else, and the status is then 1.
 """
 
 from __future__ import annotations
@@ -19,6 +20,7 @@ from typing import NamedTuple, Optional
 
 TOP = Path(__file__).resolve().parent.parent
 TABLE = TOP / "crates" / "zk_command" / "src" / "options.rt"
+SECTIONS = TOP / "crates" / "zk_inspect" / "src" / "section.rt"
 FINDINGS = TOP / "crates" / "zk_inspect" / "src" / "check" / "finding.rt"
 LISTINGS = TOP / "docs" / "manual" / "listings.md"
 DRAWINGS = TOP / "web" / "page" / "drawings.js"
@@ -77,6 +79,13 @@ def read_options(text: str, constant: str) -> list[Option]:
         known[number or shared] if number or shared else Option(name, VALUES[kind])
         for number, kind, name, shared in re.findall(row, listed)
     ]
+
+
+def read_sections(text: str) -> list[Option]:
+    """The options of sections, in the order in which these are shown."""
+    listed = text.split("const SECTIONS:", 1)[1].split("];")[0]
+    names = dict(re.findall(r'Section::(\w+) => "([\w-]+)",', text.split("pub fn name", 1)[1].split("pub fn ")[0]))
+    return [Option(names[it], VALUES["Flag"]) for it in re.findall(r"\bSection::(\w+),", listed)]
 
 
 def usage_lines(command: str, options: list[Option], last: str) -> str:
@@ -157,7 +166,7 @@ def made() -> dict[Path, str]:
     play = read_options(text, "PLAY_OPTIONS")
     commands = [
         ("play", play, "STORY"),
-        ("info", read_options(text, "INFO_OPTIONS"), "STORY..."),
+        ("info", read_sections(SECTIONS.read_text("utf-8")) + read_options(text, "INFO_OPTIONS"), "STORY..."),
         ("disasm", read_options(text, "DISASM_OPTIONS"), "STORY"),
         ("check", read_options(text, "CHECK_OPTIONS"), "STORY..."),
         ("test", read_options(text, "TEST_OPTIONS"), "PATH..."),
