@@ -111,7 +111,7 @@ enum {
     ZKIT_AWAITS_MEMORY = 7      /* there is no memory for text, or for a state that the story keeps: turn again */
 };
 
-/* What the functions that answer a story answer. */
+/* What the functions that answer a story answer, and zkit_story_in. */
 enum {
     ZKIT_DONE = 0,
     ZKIT_NOT_AWAITED = 1,       /* something else is awaited, or nothing */
@@ -120,7 +120,9 @@ enum {
     ZKIT_NO_MEMORY = 4,         /* there is no memory */
     ZKIT_NO_STATE = 5,          /* there is no state to go back to */
     ZKIT_LISTING_TOO_LONG = 6,  /* the listing has more bytes than it may */
-    ZKIT_LISTING_TOO_MANY_WORDS = 7  /* the texts of the listing have more words than ZKIT_LISTING_WORDS */
+    ZKIT_LISTING_TOO_MANY_WORDS = 7, /* the texts of the listing have more words than ZKIT_LISTING_WORDS */
+    ZKIT_NOT_A_BLORB = 8,       /* the file is no Blorb file */
+    ZKIT_NO_STORY = 9           /* the Blorb file has no story for the Z-machine, or is cut off */
 };
 
 /* What zkit_status answers: why the story has stopped. */
@@ -180,6 +182,17 @@ zkit *zkit_open(const uint8_t *story, size_t length, const zkit_options *options
  * without a 0 at its end, or as much of them as there is room for; answers how many bytes. A reason that is not known
  * has none, nor has ZKIT_OPENED. */
 size_t zkit_text_of_open(uint32_t reason, uint8_t *buffer, size_t length);
+
+/* Puts the words for what a file is that is no story, such as "it is a zip archive; unpack it", at the front of a
+ * buffer, in the same way. They go by the first bytes of the file alone; most files have none. */
+size_t zkit_text_of_file(const uint8_t *file, size_t file_length, uint8_t *buffer, size_t length);
+
+/* Copies the story of a Blorb file (Blorb 2.0.4) to the front of a buffer of length bytes, and says in *needed how many
+ * bytes it has: fewer than the file. It is the first executable of the index, if that is one for the Z-machine.
+ *
+ * ZKIT_DONE; ZKIT_NO_ROOM: *needed is set and the buffer is as it was; ZKIT_NOT_A_BLORB or ZKIT_NO_STORY: both are as
+ * they were. */
+uint32_t zkit_story_in(const uint8_t *file, size_t file_length, uint8_t *buffer, size_t length, size_t *needed);
 
 /* Gives back all memory of a game. Null is nothing. */
 void zkit_close(zkit *game);

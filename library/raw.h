@@ -26,6 +26,8 @@ uint32_t zk_reason(struct zk_handle *game);
 uint32_t zk_address(struct zk_handle *game);
 size_t zk_text_of_reason(uint32_t status, uint32_t reason, uint8_t *buffer, size_t length);
 size_t zk_text_of_open(uint32_t reason, uint8_t *buffer, size_t length);
+size_t zk_text_of_file(const uint8_t *file, size_t file_length, uint8_t *buffer, size_t length);
+uint32_t zk_story_in(const uint8_t *file, size_t file_length, uint8_t *buffer, size_t length, size_t *needed);
 uint32_t zk_longest_line(struct zk_handle *game);
 uint32_t zk_line(struct zk_handle *game, const uint8_t *line, size_t length);
 uint32_t zk_character(struct zk_handle *game, uint32_t character);

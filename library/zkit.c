@@ -182,6 +182,14 @@ size_t zkit_text_of_open(uint32_t reason, uint8_t *buffer, size_t length) {
     return zk_text_of_open(reason, buffer_at(buffer), length);
 }
 
+size_t zkit_text_of_file(const uint8_t *file, size_t file_length, uint8_t *buffer, size_t length) {
+    return zk_text_of_file(bytes_at(file), file_length, buffer_at(buffer), length);
+}
+
+uint32_t zkit_story_in(const uint8_t *file, size_t file_length, uint8_t *buffer, size_t length, size_t *needed) {
+    return zk_story_in(bytes_at(file), file_length, buffer_at(buffer), length, needed);
+}
+
 /* ---- answers */
 
 uint32_t zkit_longest_line(const zkit *game) {

@@ -43,6 +43,8 @@
  * @property {(game: bigint) => number} zkit_address
  * @property {(status: number, reason: number, buffer: bigint, length: bigint) => bigint} zkit_text_of_reason
  * @property {(reason: number, buffer: bigint, length: bigint) => bigint} zkit_text_of_open
+ * @property {(file: bigint, fileLength: bigint, buffer: bigint, length: bigint) => bigint} zkit_text_of_file
+ * @property {(file: bigint, fileLength: bigint, buffer: bigint, length: bigint, needed: bigint) => number} zkit_story_in
  * @property {(game: bigint) => number} zkit_longest_line
  * @property {Giving} zkit_line
  * @property {(game: bigint, character: number) => number} zkit_character
@@ -80,6 +82,8 @@ const AWAITED = ["stopped", "line", "character", "save", "restore", "room", "tim
 // What the functions that answer a story answer.
 const DONE = 0;
 const NO_ROOM = 3;
+const NO_MEMORY = 4;
+const NOT_A_BLORB = 8;
 
 // Why a story has stopped.
 const FAULT = 2;
@@ -91,19 +95,6 @@ const TOO_MUCH_TEXT = 6;
 const LAST_OF_STORY = 5;
 const BAD_VERSION = 2;
 const OPEN_NO_MEMORY = 6;
-
-/**
- * What a file that is no story begins as, in the words of `zkit play`.
- * @type {[RegExp, string][]}
- */
-const BEGINNINGS = [
-    [/^FORM[^]{4}IFRS/, "it is a Blorb file: `zkit unpack FILE OUT` takes the story out"],
-    [/^Glul/, "it is a Glulx story, which is for another machine"],
-    [/^\x1f\x8b/, "it is compressed by gzip; unpack it"],
-    [/^PK\x03\x04/, "it is a zip archive; unpack it"],
-    [/^[\t\n\r -~\x80-\xff]+$/, "it is a text file"],
-];
-const LEAD = 64;
 
 /** A file of more bytes is refused as one of so many is: no version allows as many. */
 const LONGEST_STORY = 524_289;
@@ -118,15 +109,6 @@ const STORY_SIZE = 32;
 const SIZE = 8;
 
 const GREATEST = 0xffff_ffff;
-
-/**
- * What a file is that is no story, in words, where its first bytes tell.
- * @param {Uint8Array} story
- */
-function beginning(story) {
-    const lead = String.fromCharCode(...story.subarray(0, LEAD));
-    return BEGINNINGS.find(([pattern]) => pattern.test(lead))?.[1];
-}
 
 /**
  * A number as C takes it. What is no whole number of 32 bits becomes the greatest one, which lies out of each range.
@@ -228,11 +210,48 @@ export class Module {
      * @param {bigint} buffer
      */
     wordsOfRefusal(reason, story, buffer) {
-        const looks = reason <= LAST_OF_STORY ? beginning(story) : undefined;
+        const looks = reason <= LAST_OF_STORY ? this.wordsOfFile(story, buffer) : "";
         if (looks || reason === BAD_VERSION)
             return looks || `version ${story[0]} is not played`;
         const count = this.calls.zkit_text_of_open(reason, buffer, BigInt(BUFFER));
         return decoder().decode(this.bytes(buffer, Number(count)));
+    }
+
+    /**
+     * What a file is that is no story, in words; "" where its first bytes do not tell, or there is no memory.
+     * @param {Uint8Array} file
+     * @param {bigint} buffer
+     */
+    wordsOfFile(file, buffer) {
+        const lead = file.subarray(0, BUFFER);
+        const at = this.copied(lead);
+        if (at === 0n)
+            return "";
+        const count = this.calls.zkit_text_of_file(at, BigInt(lead.length), buffer, BigInt(BUFFER));
+        this.calls.zkit_give(at);
+        return decoder().decode(this.bytes(buffer, Number(count)));
+    }
+
+    /**
+     * The story that a file has: that in a Blorb file, and another file itself. Null where a Blorb file has none, or is
+     * cut off. Throws Refused where there is no memory.
+     * @param {Uint8Array} file
+     */
+    storyIn(file) {
+        const size = BigInt(file.length);
+        const from = this.copied(file);
+        const to = this.calls.zkit_take(size + BigInt(SIZE));
+        let answer = NO_MEMORY;
+        let story = null;
+        if (from !== 0n && to !== 0n) {
+            answer = this.calls.zkit_story_in(from, size, to + BigInt(SIZE), size, to);
+            if (answer === DONE)
+                story = this.bytes(to + BigInt(SIZE), Number(this.view(to, SIZE).getBigUint64(0, true))).slice();
+        }
+        [from, to].filter((place) => place !== 0n).forEach((place) => this.calls.zkit_give(place));
+        if (answer === NO_MEMORY)
+            throw new Refused(OPEN_NO_MEMORY, "out of memory");
+        return answer === NOT_A_BLORB ? file : story;
     }
 
     /**

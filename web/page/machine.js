@@ -130,6 +130,15 @@ export class Machine {
     }
 
     /**
+     * The story that a file has; null where it is a Blorb file without one.
+     * @param {Uint8Array} file
+     * @returns {Promise<Uint8Array | null>}
+     */
+    storyIn(file) {
+        return this.call("storyIn", { file });
+    }
+
+    /**
      * The IFID of a story, which is not played for that.
      * @param {Uint8Array} story
      * @returns {Promise<string>}

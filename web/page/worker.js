@@ -149,6 +149,7 @@ const CALLS = {
         story = bytes;
         return about(game);
     },
+    storyIn: ({ file }) => /** @type {Module} */ (module).storyIn(file),
     ifid: ({ story: bytes }) => {
         const other = /** @type {Module} */ (module).open(bytes, {});
         const { ifid } = about(other);

@@ -1,3 +1,4 @@
 pub mod Blorb
+pub mod Looks
 pub mod Seen
 pub mod guards

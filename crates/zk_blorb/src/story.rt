@@ -28,7 +28,7 @@ pub enum BlorbError {
 }
 
 /// Whether a file begins as a Blorb file.
-fn begins_as_blorb(file: &[u8]) -> bool
+pub(crate) fn begins_as_blorb(file: &[u8]) -> bool
     requires { 8 ≤ length file.now }
     ensures { result ≡ begins_as_blorb file.now }
 {

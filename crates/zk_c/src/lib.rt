@@ -2,7 +2,9 @@
 // `include/zkit.h`.
 #![tactic(auto)]
 
-ghost use Rattle.std.specs.Prelude.{◌≡◌, ◌∷◌, ◌==◌, [], List, ℕ, None, Some, not};
+ghost use Rattle.std.specs.Prelude.{◌≡◌, ◌∷◌, ◌==◌, [], List, ℕ, None, Some, not, unwrap_or};
+ghost use Rattle.zk_blorb.specs.Blorb.{story_of};
+ghost use Rattle.zk_blorb.specs.Looks.{looks_of, looks_text};
 ghost use Rattle.zk_mem.specs.Header.{header_of};
 ghost use Rattle.zk_term.specs.Windows.{row_text, tallest_row_text};
 ghost use Rattle.zk_vm.specs.Sessions.{with_grid_forgotten};
@@ -12,6 +14,7 @@ ghost use Rattle.zk_host.specs.Texts.{IsPutInFront, IsTaken};
 ghost use Rattle.zk_host.specs.Calls.{IsStatus, awaited, character_read, character_refused, line_refused};
 ghost use Rattle.zk_host.specs.Calls.{longest_snapshot, restore_refused, save_refused};
 ghost use Rattle.zk_host.specs.Drawing.{longest_line, row_bytes, row_number, window_of};
+ghost use Rattle.zk_host.specs.Files.{IsStoryPut};
 ghost use Rattle.zk_host.specs.Listings.{listing_numbered};
 ghost use Rattle.zk_host.specs.Numbers.{address_number, reason_number, status_number};
 ghost use Rattle.zk_host.specs.Exports.{IsAnswered, IsImaged, IsListed, IsOpened, IsOpenedAgain, IsSnapshotPut, IsTurn};
@@ -20,6 +23,7 @@ ghost use Rattle.zk_host.specs.Exports.{IsUndo, OnPlay, facts_of, limits_said, v
 use std::alloc::Global;
 use zk_host::drawing::{StatusFigures, WindowFigures};
 use zk_host::facts::{Facts, facts_of};
+use zk_host::files::{put_story, words_on_file};
 use zk_host::handle::Zkit;
 use zk_host::listing::listing_of;
 use zk_host::numbers::{
@@ -403,6 +407,24 @@ pub extern "C" fn zk_text_of_open(reason: u32, buffer: &mut [u8]) -> usize
     ensures { (bytes : List ℕ) × IsPutInFront bytes buffer.old buffer.new result }
 {
     put_front(words_on_open(reason).as_bytes(), buffer)
+}
+
+/// Puts the words for what a file is that is no story, by its first bytes, at the front of a buffer, as many bytes as
+/// there is room for. Answers how many.
+#[unsafe(no_mangle)]
+pub extern "C" fn zk_text_of_file(file: &[u8], buffer: &mut [u8]) -> usize
+    ensures { IsPutInFront (unwrap_or (looks_text (looks_of file.now)) []) buffer.old buffer.new result }
+{
+    put_front(words_on_file(file).as_bytes(), buffer)
+}
+
+/// Puts the story of a Blorb file at the front of a buffer and tells its length: `story_in` of `zk_blorb`. Answers 0, 3
+/// where there is no room for it, 8 where the file is no Blorb file, or 9 where that has no story.
+#[unsafe(no_mangle)]
+pub extern "C" fn zk_story_in(file: &[u8], buffer: &mut [u8], length: &mut usize) -> u32
+    ensures { IsStoryPut (story_of file.now) buffer.old buffer.new length.old length.new result }
+{
+    put_story(file, buffer, length)
 }
 
 /// Lists the story's file in at most so many bytes, for `zk_listing`. Answers 0, 1 where there is no such listing, 4

@@ -9,4 +9,5 @@ pub mod Typing
 pub mod Calls
 pub mod Numbers
 pub mod Exports
+pub mod Files
 pub mod Within

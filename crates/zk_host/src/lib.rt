@@ -5,6 +5,7 @@ mod bounded;
 mod collected;
 pub mod drawing;
 pub mod facts;
+pub mod files;
 pub mod handle;
 pub mod listing;
 mod loose;

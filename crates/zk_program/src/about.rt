@@ -2,74 +2,8 @@
 
 use crate::bad_destination::BadDestination;
 use std::cell::Cell;
+use zk_blorb::looks::Looks;
 use zk_system::watched::DeviceNotes;
-
-/// What the first bytes of a file look like.
-#[derive(Clone, Copy, Drop)]
-pub enum Looks {
-    /// Nothing that is known by them.
-    Unknown,
-    /// Resources of a story, perhaps with the story (Blorb).
-    Blorb,
-    /// A story of another machine.
-    Glulx,
-    Gzip,
-    Zip,
-    /// Letters and signs alone.
-    Text,
-}
-
-/// So many bytes are looked at to tell a text.
-const LEAD: usize = 64;
-
-/// Whether a byte may stand in a text: a tab, a line's end, a sign of ASCII, or a part of another character.
-fn is_of_text(byte: u8) -> bool {
-    matches!(byte, b'\t' | b'\n' | b'\r' | b' '..=b'~' | 128..=255)
-}
-
-/// Whether bytes are those of a text.
-fn is_text(bytes: &[u8]) -> bool {
-    for byte in bytes {
-        if !is_of_text(*byte) {
-            return false;
-        }
-    }
-    !bytes.is_empty()
-}
-
-impl Looks {
-    /// What a file looks like that begins with these bytes.
-    pub fn of(bytes: &[u8]) -> Looks {
-        if bytes.starts_with(b"FORM") && bytes.get(8..12) == Some(b"IFRS".as_slice()) {
-            return Looks::Blorb;
-        }
-        if bytes.starts_with(b"Glul") {
-            return Looks::Glulx;
-        }
-        if bytes.starts_with(b"\x1f\x8b") {
-            return Looks::Gzip;
-        }
-        if bytes.starts_with(b"PK\x03\x04") {
-            return Looks::Zip;
-        }
-        if is_text(&bytes[..bytes.len().min(LEAD)]) {
-            return Looks::Text;
-        }
-        Looks::Unknown
-    }
-
-    /// What the file is, in words.
-    pub fn text(self) -> Option<&'static str> {
-        match self {
-            Looks::Unknown => None,
-            Looks::Blorb => Some("it is a Blorb file: `zkit unpack FILE OUT` takes the story out"),
-            Looks::Glulx => Some("it is a Glulx story, which is for another machine"),
-            Looks::Gzip => Some("it is compressed by gzip; unpack it"),
-            Looks::Zip => Some("it is a zip archive; unpack it"),
-            Looks::Text => Some("it is a text file"),
-        }
-    }
-}
 
 /// What is known of a run: the paths of its files, what stands in the line before a listing, what the story's file
 /// looks like, how its devices went, and where a bad target leads.

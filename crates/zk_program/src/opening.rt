@@ -3,10 +3,11 @@
 ghost use Rattle.std.specs.Prelude.{◌≡◌, ◌++◌, IfOk, OnOk, IfSome};
 ghost use Rattle.zk_program.specs.Playing.{IsOpened, bytes_read};
 
-use crate::about::{About, Looks};
+use crate::about::About;
 use crate::exit::Exit;
 use std::alloc::Global;
 use std::io::{self, ErrorKind, Read};
+use zk_blorb::looks::Looks;
 use zk_mem::story::Story;
 
 /// One byte past the greatest length of a story: a longer file is too long by what is read of it.

@@ -49,8 +49,7 @@ use Rattle.zk_step.specs.Words.{words_changed}
 use Rattle.zk_step.specs.Inputs.{reading, line_answered, character_answered, result_answered}
 use Rattle.zk_step.specs.Instructions.{carried_out}
 use Rattle.zk_step.specs.Effects.{effect_of}
-use Rattle.zk_step.specs.Routing.{routed, ends_line, script_is_on, stored_all, upper_printed}
-use Rattle.zk_step.specs.Routing
+use Rattle.zk_step.specs.Routing.{routed, ends_line, script_is_on, stored_all, unit_stored, upper_printed}
 use Rattle.zk_step.specs.Streams.{newest_of, opened, counted, tables_below}
 use Rattle.zk_term.specs.Windows.{first_windows, split, window_selected, printed, cursor_set, character_printed}
 use Rattle.zk_term.specs.Windows.{cleared, unsplit}
@@ -99,7 +98,7 @@ in_push_effect = tt
 -- the definitions that are opened in output examples
 unfoldable pub output_examples : ⊤
 unfolding opened counted newest_of tables_below stream_selected byte_at byte_put word_put first_windows routed
-    Routing.stored stored_all ends_line script_is_on upper_printed units_of characters_of bytes_put words_from
+    unit_stored stored_all ends_line script_is_on upper_printed units_of characters_of bytes_put words_from
     unicode_table words_at_table own_characters character code_from code_of shown shown_all standard_letters
     standard_characters split window_selected printed header_of word_at table_effect window_effect scanned row_at
     rows_from rows_of places bytes_read cursor_set

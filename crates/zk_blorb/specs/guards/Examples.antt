@@ -1,6 +1,8 @@
 -- Worked examples of the story in a Blorb file, by hand.
-use Rattle.std.specs.Prelude.{◌≡◌, ℕ, List, [], ◌∷◌, ◌++◌, take, codes, Ok, Err}
+use Rattle.std.specs.Prelude.{◌≡◌, ℕ, List, [], ◌∷◌, ◌++◌, replicate, take, codes, Ok, Err}
 use Rattle.zk_blorb.specs.Blorb.{number_of, story_of}
+use Rattle.zk_blorb.specs.Looks.{looks_of}
+use Rattle.zk_blorb.specs.declared.looks.Looks.TheVariants.{Unknown, Blorb, Glulx, Gzip, Zip, Text}
 use Rattle.zk_blorb.specs.declared.story.BlorbError.TheVariants.{NoBlorb, CutOff, NoIndex, NoStory, NotZcode}
 
 -- the number 1, 2, 3, 4, and the greatest
@@ -73,3 +75,24 @@ FilesAreRefused =
     × (story_of (file_of 52 (two_rows ++ picture ++ story)) ≡ Err CutOff)
     × (story_of (file_of 63 (two_rows ++ picture ++ chunk (codes "ZCOD") 4 (5 ∷ 6 ∷ 7 ∷ []))) ≡ Err CutOff)
     × (story_of (file_of 63 (two_rows ++ picture ++ chunk (codes "GLUL") 3 (5 ∷ 6 ∷ 7 ∷ []))) ≡ Err NotZcode)
+
+-- a file is told by its first bytes, and another form is none of resources
+abbrev pub KindsAreTold : Type 0
+KindsAreTold =
+    (looks_of (codes "FORM" ++ small 4 ++ codes "IFRS") ≡ Blorb)
+    × (looks_of (codes "FORM" ++ small 4 ++ codes "AIFF") ≡ Unknown)
+    × (looks_of (codes "Glul" ++ small 3) ≡ Glulx)
+    × (looks_of (0x1f ∷ 0x8b ∷ 8 ∷ []) ≡ Gzip)
+    × (looks_of (0x1f ∷ []) ≡ Unknown)
+    × (looks_of (codes "PK" ++ 3 ∷ 4 ∷ 20 ∷ []) ≡ Zip)
+    × (looks_of (codes "PK") ≡ Text)
+
+-- a text has at least a byte, and none of its first 64 is another control character than a tab or an end of a line
+abbrev pub TextsAreTold : Type 0
+TextsAreTold =
+    (looks_of [] ≡ Unknown)
+    × (looks_of (9 ∷ 13 ∷ 10 ∷ 32 ∷ 126 ∷ 128 ∷ 255 ∷ []) ≡ Text)
+    × (looks_of (65 ∷ 127 ∷ []) ≡ Unknown)
+    × (looks_of (65 ∷ 31 ∷ []) ≡ Unknown)
+    × (looks_of (replicate 64 65 ++ 0 ∷ []) ≡ Text)
+    × (looks_of (replicate 63 65 ++ 0 ∷ []) ≡ Unknown)
