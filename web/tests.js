@@ -219,6 +219,40 @@ function refusals(module) {
         want(refusalOf(() => module.open(story, options)).number === 7, `refused: ${JSON.stringify(options)}`);
 }
 
+/** A chunk of a Blorb file. */
+function chunk(name, content) {
+    const head = Buffer.alloc(8);
+    head.write(name, "latin1");
+    head.writeUInt32BE(content.length, 4);
+    return Buffer.concat([head, content, Buffer.alloc(content.length % 2)]);
+}
+
+/** A Blorb file with an executable of a kind. */
+function blorb(kind, executable) {
+    const index = Buffer.alloc(16);
+    index.writeUInt32BE(1);
+    index.write("Exec", 4, "latin1");
+    index.writeUInt32BE(12 + 24, 12);
+    return chunk("FORM", Buffer.concat([Buffer.from("IFRS"), chunk("RIdx", index), chunk(kind, executable)]));
+}
+
+/** The story of a Blorb file is taken out of it, and each other file is itself. */
+function blorbs(module) {
+    const story = example("lighthouse.z5");
+    const file = blorb("ZCOD", story);
+    const is = (it, bytes) => it !== null && Buffer.compare(Buffer.from(it), bytes) === 0;
+    want(is(module.storyIn(file), story), "a story in a Blorb file");
+    want(is(module.storyIn(Buffer.concat([file, NONE, Buffer.from("more")])), story), "bytes behind a Blorb file");
+    for (const other of [NONE, story, file.subarray(0, 7), Buffer.from("FORM0000AIFF"), Buffer.alloc(80 << 20)])
+        want(module.storyIn(other) === other, "a file that is no Blorb file");
+    for (const none of [file.subarray(0, 12), file.subarray(0, file.length - 1), blorb("GLUL", story)])
+        want(module.storyIn(none) === null, "a Blorb file without a story");
+    const long = refusalOf(() => module.storyIn(blorb("ZCOD", Buffer.alloc(524_290))));
+    want(long.number === 3 && long.message === "the file is too long for its version", "a story that is too long");
+    const great = refusalOf(() => module.storyIn(blorb("ZCOD", Buffer.alloc(80 << 20))));
+    want(great.number === 6 && great.message === "out of memory", "a Blorb file that is longer than memory");
+}
+
 /** Plays a story where each line is answered by a game of its own. `next` answers one. */
 function fromSnapshots(lines, next) {
     let shown = "";
@@ -468,7 +502,7 @@ async function worker() {
 
 async function main() {
     const tests = [
-        rows, examples, windows, listings, refusals, snapshots, snapshotRefusals, thousand, large, full, worker,
+        rows, examples, windows, listings, refusals, blorbs, snapshots, snapshotRefusals, thousand, large, full, worker,
         generated,
     ];
     for (const test of tests) {

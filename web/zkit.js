@@ -44,7 +44,8 @@
  * @property {(status: number, reason: number, buffer: bigint, length: bigint) => bigint} zkit_text_of_reason
  * @property {(reason: number, buffer: bigint, length: bigint) => bigint} zkit_text_of_open
  * @property {(file: bigint, fileLength: bigint, buffer: bigint, length: bigint) => bigint} zkit_text_of_file
- * @property {(file: bigint, fileLength: bigint, buffer: bigint, length: bigint, needed: bigint) => number} zkit_story_in
+ * @property {(file: bigint, fileLength: bigint, buffer: bigint, length: bigint,
+ *     needed: bigint) => number} zkit_story_in
  * @property {(game: bigint) => number} zkit_longest_line
  * @property {Giving} zkit_line
  * @property {(game: bigint, character: number) => number} zkit_character
@@ -91,9 +92,10 @@ const LIMIT = 3;
 const OUT_OF_MEMORY = 5;
 const TOO_MUCH_TEXT = 6;
 
-// Why nothing is opened: the last reason that is the story's own, and two others.
+// Why nothing is opened: the last reason that is the story's own, and some others.
 const LAST_OF_STORY = 5;
 const BAD_VERSION = 2;
+const TOO_LONG = 3;
 const OPEN_NO_MEMORY = 6;
 
 /** A file of more bytes is refused as one of so many is: no version allows as many. */
@@ -234,24 +236,33 @@ export class Module {
 
     /**
      * The story that a file has: that in a Blorb file, and another file itself. Null where a Blorb file has none, or is
-     * cut off. Throws Refused where there is no memory.
+     * cut off. Throws Refused where that is longer than stories are, or there is no memory.
      * @param {Uint8Array} file
      */
     storyIn(file) {
-        const size = BigInt(file.length);
+        if (this.takeStory(file.subarray(0, BUFFER)).answer === NOT_A_BLORB)
+            return file;
+        const { answer, story, words } = this.takeStory(file);
+        if (answer === NO_ROOM || answer === NO_MEMORY)
+            throw new Refused(answer === NO_ROOM ? TOO_LONG : OPEN_NO_MEMORY, words);
+        return story;
+    }
+
+    /**
+     * What zkit_story_in answers, the story, and the words where that is too long or there is no memory.
+     * @param {Uint8Array} file
+     */
+    takeStory(file) {
         const from = this.copied(file);
-        const to = this.calls.zkit_take(size + BigInt(SIZE));
-        let answer = NO_MEMORY;
-        let story = null;
-        if (from !== 0n && to !== 0n) {
-            answer = this.calls.zkit_story_in(from, size, to + BigInt(SIZE), size, to);
-            if (answer === DONE)
-                story = this.bytes(to + BigInt(SIZE), Number(this.view(to, SIZE).getBigUint64(0, true))).slice();
-        }
+        const to = this.calls.zkit_take(BigInt(SIZE + LONGEST_STORY));
+        const at = to + BigInt(SIZE);
+        const answer = from === 0n || to === 0n ? NO_MEMORY
+            : this.calls.zkit_story_in(from, BigInt(file.length), at, BigInt(LONGEST_STORY), to);
+        const length = answer === DONE ? Number(this.view(to, SIZE).getBigUint64(0, true)) : 0;
+        const story = answer === DONE ? this.bytes(at, length).slice() : null;
+        const words = answer === NO_ROOM ? this.wordsOfRefusal(TOO_LONG, new Uint8Array(), to) : "out of memory";
         [from, to].filter((place) => place !== 0n).forEach((place) => this.calls.zkit_give(place));
-        if (answer === NO_MEMORY)
-            throw new Refused(OPEN_NO_MEMORY, "out of memory");
-        return answer === NOT_A_BLORB ? file : story;
+        return { answer, story, words };
     }
 
     /**

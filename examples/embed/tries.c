@@ -637,6 +637,52 @@ static void name_refusals(void) {
     say("without a buffer", zkit_text_of_open(ZKIT_DAMAGED, NULL, 0));
 }
 
+/* Shows what a file is by its first bytes. */
+static void tell_file(const char *first_bytes, size_t length) {
+    uint8_t words[100];
+    show_row("its words", zkit_text_of_file((const uint8_t *)first_bytes, length, words, sizeof words), words);
+}
+
+static void tell_files(void) {
+    uint8_t words[100];
+    puts("what a file is that is no story");
+    tell_file("FORM\0\0\0\4IFRS", 12);
+    tell_file("Glul\0\3\1\3", 8);
+    tell_file("\x1f\x8b\x08", 3);
+    tell_file("PK\3\4", 4);
+    tell_file("It was a dark and stormy night.", 31);
+    tell_file("\5\0\0", 3);
+    tell_file(NULL, 0);
+    show_row("first bytes", zkit_text_of_file((const uint8_t *)"text", 4, words, 8), words);
+    say("without a buffer", zkit_text_of_file((const uint8_t *)"text", 4, NULL, 0));
+}
+
+/* Takes the story out of a file of so many bytes, into a buffer of so many. */
+static void take_story(const char *what, const uint8_t *file, size_t length, size_t room) {
+    uint8_t buffer[8] = "........";
+    size_t needed = 99;
+    say(what, zkit_story_in(file, length, buffer, room, &needed));
+    say("needed", needed);
+    show_row("the buffer", sizeof buffer, buffer);
+}
+
+/* A Blorb file with a story of three bytes behind its index. */
+static void take_stories(void) {
+    const char letters[] = "FORM\0\0\0\50IFRSRIdx\0\0\0\20\0\0\0\1Exec\0\0\0\0\0\0\0\44ZCOD\0\0\0\3abc\0";
+    uint8_t file[sizeof letters - 1];
+    memcpy(file, letters, sizeof file);
+    puts("the story in a Blorb file");
+    take_story("taken", file, sizeof file, 8);
+    take_story("as long as the buffer", file, sizeof file, 3);
+    take_story("longer than the buffer", file, sizeof file, 2);
+    take_story("cut off", file, sizeof file - 2, 8);
+    file[39] = 'E';
+    take_story("for another machine", file, sizeof file, 8);
+    file[0] = 'f';
+    take_story("no Blorb file", file, sizeof file, 8);
+    take_story("no bytes", NULL, 0, 8);
+}
+
 /* Reads a story, and says its length: 0 where it can't be read. */
 static size_t read_story(const char *path, uint8_t *story) {
     FILE *input = fopen(path, "rb");
@@ -680,6 +726,8 @@ int main(int count, char **words) {
     bound_listing();
     name_reasons();
     name_refusals();
+    tell_files();
+    take_stories();
     say("blocks that are left of all", (size_t)blocks);
     return 0;
 }

@@ -2,7 +2,6 @@
 
 import { isRead } from "./answers.js";
 import { agreed, at, bytesOf, field, fromBase64, tell } from "./at.js";
-import { isBlorb, storyIn } from "./blorb.js";
 import { isLink, playAt, playOf } from "./link.js";
 import { NotOpened } from "./machine.js";
 import { Left } from "./play.js";
@@ -166,11 +165,13 @@ export class Opening {
             await this.offer(shared);
             return;
         }
-        const story = isBlorb(bytes) ? storyIn(bytes) : bytes;
-        if (story)
-            await this.open({ name: file.name, bytes: story });
-        else
-            tell(`${file.name}: there is no story in this Blorb file, or it was cut off.`, true);
+        await trying(file.name, async () => {
+            const story = await this.play.storyIn(bytes);
+            if (story)
+                await this.open({ name: file.name, bytes: story });
+            else
+                tell(`${file.name}: there is no story in this Blorb file, or it was cut off.`, true);
+        });
     }
 
     /**

@@ -193,6 +193,16 @@ export class Play {
     }
 
     /**
+     * The story that a file has; null where it is a Blorb file without one. The play goes on meanwhile.
+     * @param {Uint8Array} file
+     */
+    async storyIn(file) {
+        this.machine = this.machine || new Machine();
+        await this.machine.begun;
+        return this.machine.storyIn(file);
+    }
+
+    /**
      * The IFID of a story; NotOpened is thrown where it is none. The play goes on meanwhile.
      * @param {Uint8Array} bytes
      * @returns {Promise<string>}
