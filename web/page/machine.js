@@ -149,6 +149,6 @@ export class Machine {
     /** Ends the worker, whatever it does. */
     drop() {
         this.worker.terminate();
-        this.fail("the worker was ended");
+        this.fail("the worker was stopped");
     }
 }
