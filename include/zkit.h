@@ -1,34 +1,34 @@
 /* zkit.h - plays and inspects Z-machine stories from C or C++.
  * SPDX-License-Identifier: MIT OR Apache-2.0
  *
- * A game is one story that is played. The program opens it, lets it take turns, takes its text and answers what it
- * asks for. The library calls back nothing, reads no file and keeps nothing outside the games: a saved game is bytes
- * that the program keeps where it likes.
+ * A game is one play of a story. The program opens it, lets it take turns, takes its text and answers what it asks for.
+ * The library makes no callbacks, reads no files and keeps nothing outside its games: a saved game is bytes that the
+ * program keeps where it likes.
  *
  *     zkit *game = zkit_open(story, length, NULL, NULL);
  *     if (!game) ... it is not opened
  *     do {
  *         asked = zkit_turn(game);
- *         ... show what zkit_text gives, and answer what is asked for, as a line by zkit_line
+ *         ... show what zkit_text gives, and answer what is asked for: a line with zkit_line
  *     } while (asked != ZKIT_STOPPED);
  *     zkit_close(game);
  *
- * What the program owes, and no call tests:
+ * The program has these duties, which no call tests:
  *
- * - A game is used by one thread at a time. Other games may be used by other threads meanwhile.
- * - A game is what zkit_open gave and zkit_close has not taken. No other pointer is null, unless it is said, or the
- *   length after it is 0. A pointer points to as many bytes as that length says, less than 2^63. No argument overlaps
- *   another one of the same call. A struct has as many bytes as its field `size` says, or more.
- * - No function is called from a signal handler, or in the forked child of a process with threads.
+ * - Use a game from one thread at a time. Other threads may use other games meanwhile.
+ * - Pass only a game that zkit_open or zkit_open_snapshot returned and zkit_close has not closed. Pass no other null
+ *   pointer, unless the function allows it or the length after it is 0. A pointer points to as many bytes as that
+ *   length says, less than 2^63. No two arguments of a call overlap. A struct has at least as many bytes as its field
+ *   `size` says.
+ * - Call no function from a signal handler, or in the forked child of a process with threads.
  *
- * The library takes its memory by the three functions of zkit_heap.h, which are there already, over malloc.
+ * The library gets its memory from the three functions of zkit_heap.h; the library has them already, over malloc.
  *
- * Every function looks at its numbers itself: any value may be passed. A call that is refused changes nothing, but that
- * a zkit_list that is refused drops what is left of an earlier listing.
+ * Every function checks its numbers itself: you may pass any value. A refused call changes nothing, except that a
+ * refused zkit_list drops what is left of an earlier listing.
  *
- * A struct that a program passes has its own size as its first field, which the program sets. The library reads and
- * sets the fields that lie wholly within that size, and nothing past it, so that later versions can add fields at the
- * end.
+ * The first field of every struct is the struct's size, which the program sets. The library reads and sets only the
+ * fields that lie wholly within that size, so that later versions can add fields at the end.
  */
 #ifndef ZKIT_H
 #define ZKIT_H
@@ -40,8 +40,8 @@
 extern "C" {
 #endif
 
-/* The version of this header, the number of the program: 0.1.0 as 0x000100. From 1.0.0 on later versions under one
- * first number add, and change nothing; before it nothing is promised. */
+/* The version of this header, which is also the program's: 0.1.0 is 0x000100. From 1.0.0 on, later versions with the
+ * same first number add things and change nothing; before that, nothing is promised. */
 #define ZKIT_VERSION 0x000100
 
 /* The version of the library. */
@@ -50,92 +50,92 @@ uint32_t zkit_version(void);
 /* A game. */
 typedef struct zkit zkit;
 
-/* The limits that the program `zkit play` has where none are given. */
+/* The default limits of the program `zkit play`. */
 #define ZKIT_FRAMES 1024
 #define ZKIT_WORDS 16384
 #define ZKIT_UNDO 16
 #define ZKIT_STEPS 10000000
 
-/* So much text waits at most, in bytes, before the story pauses. */
+/* The default room: the story pauses when this many bytes of text wait. */
 #define ZKIT_ROOM 1048576
 
-/* A listing by zkit_list has at most so many bytes. */
+/* The most bytes in a listing by zkit_list. */
 #define ZKIT_LISTING 67108864
 
-/* The texts that are looked at for a listing have at most so many words of the story. */
+/* The most words of the story that a listing reads from texts. */
 #define ZKIT_LISTING_WORDS 1048576
 
 /* How a story is played. */
 typedef struct zkit_options {
     size_t size;     /* sizeof (zkit_options) */
-    uint64_t seed;   /* begins the random numbers: any number. The same seed and the same answers give the same play */
+    uint64_t seed;   /* seed for random numbers: any number. The same seed and the same answers give the same play */
     uint32_t frames; /* the most routines that may be open at once: 1 to 65,535 */
     uint32_t words;  /* the most 16-bit words that the open routines may hold: 0 to 65,535 */
-    uint32_t undo;   /* how many states can be gone back to: 0 to 64 */
-    uint32_t steps;  /* the most instructions without a read: 1 to 1,000,000,000 */
-    uint32_t room;   /* the story pauses where so many bytes of text wait: 1 to 2,147,483,647 */
-    uint32_t upper;  /* not 0: the text has the status line and the upper window too, on lines of their own, before
-                        each read. A program that draws them asks zkit_window and zkit_status_line, and leaves it 0 */
+    uint32_t undo;   /* how many undo states are kept: 0 to 64 */
+    uint32_t steps;  /* the most instructions between two reads: 1 to 1,000,000,000 */
+    uint32_t room;   /* the story pauses when this many bytes of text wait: 1 to 2,147,483,647 */
+    uint32_t upper;  /* if not 0, the text includes the status line and the upper window, on lines of their own, before
+                        each read. Leave it 0 if you draw them yourself, with zkit_window_of and zkit_status_line */
 } zkit_options;
 
-/* Sets each field that `options->size` has to what zkit_open goes by without options: seed 1, the limits above, and
- * no upper window. A size without all fields up to `upper` sets none. */
+/* Sets each field within `options->size` to the value that zkit_open uses without options: seed 1, the limits above,
+ * and no upper window. If the size does not include all fields up to `upper`, sets none. */
 void zkit_defaults(zkit_options *options);
 
 /* Why zkit_open and zkit_open_snapshot open nothing. */
 enum {
     ZKIT_OPENED = 0,
     ZKIT_TOO_SHORT = 1,         /* shorter than a header, 64 bytes */
-    ZKIT_BAD_VERSION = 2,       /* of a version that is not played: 3, 4, 5 and 8 are */
+    ZKIT_BAD_VERSION = 2,       /* an unsupported version: 3, 4, 5 and 8 are supported */
     ZKIT_TOO_LONG = 3,          /* more bytes than its version allows: 131,072 in 3, 262,144 in 4 and 5, 524,288 in 8 */
     ZKIT_BAD_STATIC_BASE = 4,   /* static memory begins inside the header or past the story */
     ZKIT_BAD_START = 5,         /* the first instruction lies at or past the end of the story */
     ZKIT_OPEN_NO_MEMORY = 6,    /* there is no memory */
-    ZKIT_BAD_LIMIT = 7,         /* an option lies out of its range, `size` is less than the fields up to `upper` take,
+    ZKIT_BAD_LIMIT = 7,         /* an option is out of its range, `size` does not include all fields up to `upper`,
                                    or a limit of the snapshot is greater than the option */
-    ZKIT_NOT_A_SNAPSHOT = 8,    /* the bytes are no snapshot */
-    ZKIT_OTHER_VERSION = 9,     /* the snapshot is of a format that this version does not know */
+    ZKIT_NOT_A_SNAPSHOT = 8,    /* the bytes are not a snapshot */
+    ZKIT_OTHER_VERSION = 9,     /* the snapshot has a format that this version does not know */
     ZKIT_OTHER_STORY = 10,      /* the snapshot is of another story */
     ZKIT_DAMAGED = 11           /* the snapshot begins as one of this story should, but is damaged */
 };
 
-/* What a turn answers: what is awaited. */
+/* What a turn returns: what the story awaits. */
 enum {
     ZKIT_STOPPED = 0,           /* nothing: the story has stopped, and zkit_status tells why */
     ZKIT_AWAITS_LINE = 1,       /* a line: zkit_line */
     ZKIT_AWAITS_CHARACTER = 2,  /* a character: zkit_character */
-    ZKIT_AWAITS_SAVE = 3,       /* a game is to be kept: zkit_image, and then zkit_saved */
+    ZKIT_AWAITS_SAVE = 3,       /* that you keep a saved game: zkit_image, and then zkit_saved */
     ZKIT_AWAITS_RESTORE = 4,    /* a saved game: zkit_restore or zkit_restore_none */
-    ZKIT_AWAITS_ROOM = 5,       /* as much text waits as may: take it, and turn again */
-    ZKIT_AWAITS_TIME = 6,       /* the instructions of the turn are used up: turn again */
-    ZKIT_AWAITS_MEMORY = 7      /* there is no memory for text, or for a state that the story keeps: turn again */
+    ZKIT_AWAITS_ROOM = 5,       /* room: as much text waits as is allowed. Take it, and turn again */
+    ZKIT_AWAITS_TIME = 6,       /* time: the instructions of the turn are used up. Turn again */
+    ZKIT_AWAITS_MEMORY = 7      /* memory: there is none for text, or for an undo state. Turn again */
 };
 
-/* What the functions that answer a story answer, and zkit_story_in. */
+/* What the functions that answer a story return, and zkit_story_in. */
 enum {
     ZKIT_DONE = 0,
-    ZKIT_NOT_AWAITED = 1,       /* something else is awaited, or nothing */
-    ZKIT_NOT_A_LINE = 2,        /* the bytes have a new line, or are more than 65,535 */
+    ZKIT_NOT_AWAITED = 1,       /* the story awaits something else, or nothing */
+    ZKIT_NOT_A_LINE = 2,        /* there is a new line in the bytes, or there are more than 65,535 */
     ZKIT_NO_ROOM = 3,           /* the buffer is shorter than the file */
     ZKIT_NO_MEMORY = 4,         /* there is no memory */
     ZKIT_NO_STATE = 5,          /* there is no state to go back to */
-    ZKIT_LISTING_TOO_LONG = 6,  /* the listing has more bytes than it may */
+    ZKIT_LISTING_TOO_LONG = 6,  /* the listing has more bytes than allowed */
     ZKIT_LISTING_TOO_MANY_WORDS = 7, /* the texts of the listing have more words than ZKIT_LISTING_WORDS */
     ZKIT_NOT_A_BLORB = 8,       /* the file is no Blorb file */
     ZKIT_NO_STORY = 9           /* the Blorb file has no story for the Z-machine, or is cut off */
 };
 
-/* What zkit_status answers: why the story has stopped. */
+/* What zkit_status returns: why the story has stopped. */
 enum {
-    ZKIT_RUNS = 0,              /* it has not */
+    ZKIT_RUNS = 0,              /* it has not stopped */
     ZKIT_QUIT = 1,              /* it has ended */
-    ZKIT_FAULT = 2,             /* an instruction can't be carried out: zkit_reason and zkit_address */
+    ZKIT_FAULT = 2,             /* an instruction can't be executed: zkit_reason and zkit_address */
     ZKIT_LIMIT = 3,             /* an instruction would go past a limit: zkit_reason and zkit_address */
-    ZKIT_OUT_OF_MEMORY = 5,     /* there was no memory for more than 4,096 bytes of text that came at once */
+    ZKIT_OUT_OF_MEMORY = 5,     /* there was no memory for more than 4,096 bytes of text at once */
     ZKIT_TOO_MUCH_TEXT = 6      /* more than 1,048,576 bytes past the room came at once; a long text waits for room */
 };
 
-/* What zkit_reason answers after a fault. */
+/* What zkit_reason returns after a fault. */
 enum {
     ZKIT_CODE_PAST_END = 1,     /* the instruction runs past the end of the story */
     ZKIT_BAD_OPCODE = 2,        /* no such opcode in this version */
@@ -157,172 +157,174 @@ enum {
     ZKIT_BAD_DICTIONARY = 18    /* the dictionary lies outside readable memory, or its entries are too short */
 };
 
-/* What zkit_reason answers after a limit. */
+/* What zkit_reason returns after a limit. */
 enum {
-    ZKIT_TOO_MANY_FRAMES = 1,   /* routines that are open at once */
+    ZKIT_TOO_MANY_FRAMES = 1,   /* routines open at once */
     ZKIT_TOO_MANY_WORDS = 2,    /* words that the open routines hold */
     ZKIT_TOO_MANY_STEPS = 3,    /* instructions since the last read */
-    ZKIT_TOO_MANY_READS = 4     /* 16,777,216 reads were answered */
+    ZKIT_TOO_MANY_READS = 4     /* 16,777,216 reads have been answered */
 };
 
 /* ---- opening and closing */
 
 /* Opens a story at its start.
  *
- * story    the story file, length bytes. They are copied.
- * options  how it is played; null for what zkit_defaults says. Fields past its size are as zkit_defaults has them; a
- *          size without all fields up to `upper` is refused.
- * reason   gets ZKIT_OPENED or why the story is not opened; may be null.
+ * story    the story file, of length bytes. The library copies them.
+ * options  how to play it; null for the values of zkit_defaults, which also replace fields past its size. A size that
+ *          does not include all fields up to `upper` is refused.
+ * reason   gets ZKIT_OPENED, or why the story is not opened; may be null.
  *
- * Answers the game; null where it is not opened. Of several reasons it is an option, then the first of the story's,
- * then memory. */
+ * Returns the game, or null if it is not opened. If there are several reasons, an option comes first, then the first
+ * reason about the story, then memory. */
 zkit *zkit_open(const uint8_t *story, size_t length, const zkit_options *options, uint32_t *reason);
 
-/* Puts the words for why nothing is opened, such as "the snapshot is damaged", at the front of a buffer, as UTF-8
- * without a 0 at its end, or as much of them as there is room for; answers how many bytes. A reason that is not known
- * has none, nor has ZKIT_OPENED. */
+/* Puts the words for why nothing was opened, such as "the snapshot is damaged", at the front of a buffer, as UTF-8
+ * without a final 0, or as much of them as fits; returns how many bytes. ZKIT_OPENED and unknown reasons have no
+ * words. */
 size_t zkit_text_of_open(uint32_t reason, uint8_t *buffer, size_t length);
 
-/* Puts the words for what a file is that is no story, such as "it is a zip archive; unpack it", at the front of a
- * buffer, in the same way. They go by the first bytes of the file alone; most files have none. */
+/* Writes what a file is that is no story, in words such as "it is a zip archive; unpack it", to the front of a buffer, in
+ * the same way. The words go by the first bytes of the file; most files have none. */
 size_t zkit_text_of_file(const uint8_t *file, size_t file_length, uint8_t *buffer, size_t length);
 
-/* Copies the story of a Blorb file (Blorb 2.0.4) to the front of a buffer of length bytes, and says in *needed how many
- * bytes it has: fewer than the file. It is the first executable of the index, if that is one for the Z-machine.
+/* Copies the story of a Blorb file (Blorb 2.0.4) to the front of a buffer of length bytes, and sets *needed to its
+ * number of bytes, which is less than the file's. The story is the first executable of the index, if that is for the
+ * Z-machine.
  *
- * ZKIT_DONE; ZKIT_NO_ROOM: *needed is set and the buffer is as it was; ZKIT_NOT_A_BLORB or ZKIT_NO_STORY: both are as
- * they were. */
+ * ZKIT_DONE; ZKIT_NO_ROOM: *needed is set and the buffer is unchanged; ZKIT_NOT_A_BLORB or ZKIT_NO_STORY: both are
+ * unchanged. */
 uint32_t zkit_story_in(const uint8_t *file, size_t file_length, uint8_t *buffer, size_t length, size_t *needed);
 
-/* Gives back all memory of a game. Null is nothing. */
+/* Frees all memory of a game. With null it does nothing. */
 void zkit_close(zkit *game);
 
 /* ---- turns and text */
 
-/* Runs the story until it awaits something or stops, and answers which. Its text is collected for zkit_text and
- * zkit_transcript, and kept until it is taken. Where the story awaits an answer already, that is told again and
- * nothing is run; where it has stopped, ZKIT_STOPPED.
+/* Runs the story until it awaits something or stops, and returns which. The library collects the text for zkit_text and
+ * zkit_transcript, and keeps it until it is taken. If the story already awaits an answer, the call returns that again
+ * and runs nothing; if the story has stopped, it returns ZKIT_STOPPED.
  *
- * ZKIT_AWAITS_ROOM: as many bytes of text wait, for both together, as the option `room` says, or what was shown at once
- * more. This may be in the middle of an instruction's text. Nothing else is changed by it: the next turn goes on.
+ * ZKIT_AWAITS_ROOM: the bytes of text that wait, for both together, have reached the option `room`, or passed it by
+ * what was shown at once. This may happen in the middle of an instruction's text. It changes nothing else: the next
+ * turn goes on.
  *
- * ZKIT_AWAITS_MEMORY: there is no memory for the next 4,096 bytes of text, or for the state that the next instruction
- * keeps to go back to. Nothing is lost by it either: once there is memory, a turn goes on. Taking the text may be
- * enough. (What comes at once is longer only where a story prints a row of a table of more than 1,365 characters, or
- * where `upper` is set and the window tall. Where there is no memory for that the story stops: ZKIT_OUT_OF_MEMORY.) */
+ * ZKIT_AWAITS_MEMORY: there is no memory for the next 4,096 bytes of text, or for the undo state that the next
+ * instruction keeps. Nothing is lost either: once there is memory, a turn goes on. Taking the text may be enough. (More
+ * text comes at once only if a story prints a table row of more than 1,365 characters, or if `upper` is set and the
+ * window is tall. If there is no memory for that, the story stops: ZKIT_OUT_OF_MEMORY.) */
 uint32_t zkit_turn(zkit *game);
 
-/* The same for so many instructions at most: ZKIT_AWAITS_TIME where they are used up, and the next turn goes on as if
- * nothing had been. Of a long text each thousand Z-characters count as an instruction here, and so do rows of a table
- * with as many characters, or a longer one: the time may come in their middle. */
+/* The same for at most this many instructions: returns ZKIT_AWAITS_TIME when they are used up, and the next turn goes
+ * on as if nothing had happened. Here each thousand Z-characters of a long text count as one instruction, and so do
+ * table rows with a thousand characters, or a single longer row: the turn may end in their middle. */
 uint32_t zkit_turn_for(zkit *game, uint32_t steps);
 
-/* Moves the next bytes of the screen's text into a buffer, and answers how many: at most length, and 0 where no text is
- * left, or length is 0. There may be more text after fewer bytes than length: ask until 0 comes. The text is UTF-8
- * without a 0 at its end; a part may end inside a character. The bytes after them in the buffer stay as they were. */
+/* Moves the next bytes of the screen's text into a buffer, and returns how many: at most length, and 0 if no text is
+ * left or length is 0. There may be more text even after fewer bytes than length: call it until it returns 0. The text
+ * is UTF-8 without a final 0; a part may end inside a character. The rest of the buffer stays as it was. */
 size_t zkit_text(zkit *game, uint8_t *buffer, size_t length);
 
-/* The same for the text that the transcript got, while the story has it on. */
+/* The same for the text of the transcript, which the story can turn on and off. */
 size_t zkit_transcript(zkit *game, uint8_t *buffer, size_t length);
 
-/* Why the story has stopped, by what the last turn found: ZKIT_RUNS where it has not. */
+/* Why the story has stopped, as the last turn found: ZKIT_RUNS if it has not. */
 uint32_t zkit_status(const zkit *game);
 
-/* Which fault or limit has stopped the story; 0 where none has. */
+/* Which fault or limit has stopped the story; 0 if none has. */
 uint32_t zkit_reason(const zkit *game);
 
-/* The byte address of the instruction with that fault or limit; 0 where there is none. */
+/* The byte address of the instruction with that fault or limit; 0 if there is none. */
 uint32_t zkit_address(const zkit *game);
 
 /* Puts the words for a status and its reason, such as "division by zero", at the front of a buffer, as UTF-8 without a
- * 0 at its end, or as much of them as there is room for; answers how many bytes. A status or reason that is not known
- * has none, nor has ZKIT_RUNS. Only after a fault or a limit the reason counts. */
+ * final 0, or as much of them as fits; returns how many bytes. ZKIT_RUNS and unknown statuses and reasons have no
+ * words. The reason counts only after a fault or a limit. */
 size_t zkit_text_of_reason(uint32_t status, uint32_t reason, uint8_t *buffer, size_t length);
 
 /* ---- answers */
 
-/* The most characters of a line that the story takes, where it awaits a line: at most 255. 0 where it awaits none. */
+/* The most characters that the story takes in the line that it awaits: at most 255. 0 if it awaits no line. */
 uint32_t zkit_longest_line(const zkit *game);
 
-/* Answers a story that awaits a line: length bytes of UTF-8, at most 65,535, without its end: no new line, and no
- * return before it. A character that the story's character set has not is read as a question mark, and so is a byte
- * that is no UTF-8; a tab is a space. What is after the 255th character is dropped.
+/* Gives a line to a story that awaits one: length bytes of UTF-8, at most 65,535, without a new line or a carriage
+ * return at the end. A character that is not in the story's character set is read as a question mark, and so is a byte
+ * that is not UTF-8; a tab is read as a space. Everything after the 255th character is dropped.
  *
  * ZKIT_DONE, ZKIT_NOT_AWAITED or ZKIT_NOT_A_LINE. */
 uint32_t zkit_line(zkit *game, const uint8_t *line, size_t length);
 
-/* Answers a story that awaits a character, by its number in Unicode: 10 or 13 is a new line. A character that the
- * story's character set has not, and a number that is no character, is read as a question mark; a tab is a space.
+/* Gives a character to a story that awaits one, by its Unicode number: 10 or 13 is a new line. A character that is not
+ * in the story's character set is read as a question mark, and so is a number that is not a character; a tab is read as
+ * a space.
  *
  * ZKIT_DONE or ZKIT_NOT_AWAITED. */
 uint32_t zkit_character(zkit *game, uint32_t character);
 
-/* Goes back to the newest state that the story has kept, as its own `restore_undo` would, where it awaits a line or a
+/* Goes back to the story's newest undo state, as its own `restore_undo` would, if the story awaits a line or a
  * character. The next turn goes on from there.
  *
  * ZKIT_DONE; ZKIT_NOT_AWAITED: it awaits something else; ZKIT_NO_STATE: it has kept none, or all are used up. */
 uint32_t zkit_undo(zkit *game);
 
-/* Copies the file of the saved game that is to be kept, in the format Quetzal 1.4, to the front of a buffer of length
- * bytes, and says in *needed how many bytes it has: at most 51, and the bytes of the story's dynamic memory (less than
- * 65,536), and 8 for each frame and 2 for each word that the limits allow. The story goes on awaiting zkit_saved.
+/* Copies the file of the saved game, in the format Quetzal 1.4, to the front of a buffer of length bytes, and sets
+ * *needed to its size in bytes: at most 51, plus the story's dynamic memory (less than 65,536), plus 8 for each frame
+ * and 2 for each word that the limits allow. The story then still awaits zkit_saved.
  *
- * ZKIT_DONE; ZKIT_NO_ROOM: *needed is set and the buffer is as it was; ZKIT_NOT_AWAITED or ZKIT_NO_MEMORY: both are as
- * they were. */
+ * ZKIT_DONE; ZKIT_NO_ROOM: *needed is set and the buffer is unchanged; ZKIT_NOT_AWAITED or ZKIT_NO_MEMORY: both are
+ * unchanged. */
 uint32_t zkit_image(zkit *game, uint8_t *buffer, size_t length, size_t *needed);
 
-/* Tells a story that awaits it whether its saved game was kept: not 0 where it was.
+/* Tells a waiting story whether its saved game was kept: pass any number but 0 if it was.
  *
  * ZKIT_DONE or ZKIT_NOT_AWAITED. */
 uint32_t zkit_saved(zkit *game, uint32_t kept);
 
-/* Answers a story that awaits a saved game by its file of length bytes. A file that is no saved game of this story
- * counts as none, which the story tells its player; one with more frames or words than the limits allow stops it by
- * that limit.
+/* Gives a saved game, a file of length bytes, to a story that awaits one. A file that is not a saved game of this story
+ * counts as none, and the story tells its player so. A saved game with more frames or words than the limits allow stops
+ * the story with that limit.
  *
  * ZKIT_DONE or ZKIT_NOT_AWAITED. */
 uint32_t zkit_restore(zkit *game, const uint8_t *file, size_t length);
 
-/* Answers a story that awaits a saved game that there is none.
+/* Tells a story that awaits a saved game that there is none.
  *
  * ZKIT_DONE or ZKIT_NOT_AWAITED. */
 uint32_t zkit_restore_none(zkit *game);
 
 /* ---- snapshots */
 
-/* Copies a snapshot of the play to the front of a buffer of length bytes, and says in *needed how many bytes it has. It
- * may be had where the story awaits a line or a character. It has memory, routines, random numbers, streams and windows
- * as they are, so that the same answers give the same play from there on, in another process too. It has not the states
- * that zkit_undo and the story's own `restore_undo` go back to, nor the grid of a box that is gone, nor text that was
- * not taken: take that first.
+/* Copies a snapshot of the play to the front of a buffer of length bytes, and sets *needed to its size in bytes. You
+ * can take a snapshot when the story awaits a line or a character. It contains memory, routines, random numbers,
+ * streams and windows as they are, so that the same answers give the same play from there on, even in another process.
+ * It does not contain the states that zkit_undo and the story's own `restore_undo` go back to, the grid of a box that
+ * is gone, or text that was not taken: take the text first.
  *
- * Its format is this project's own, and begins with a number of its version. From 1.0.0 on a later version of the same
- * first number reads it. A saved game, by zkit_image, is what other interpreters read.
+ * The format is this project's own, and begins with its version number. From 1.0.0 on, later versions with the same
+ * first number can read it. Other interpreters can read a saved game, which zkit_image makes.
  *
- * ZKIT_DONE; ZKIT_NO_ROOM: *needed is set and the buffer is as it was; ZKIT_NOT_AWAITED or ZKIT_NO_MEMORY: both are as
- * they were. */
+ * ZKIT_DONE; ZKIT_NO_ROOM: *needed is set and the buffer is unchanged; ZKIT_NOT_AWAITED or ZKIT_NO_MEMORY: both are
+ * unchanged. */
 uint32_t zkit_snapshot(zkit *game, uint8_t *buffer, size_t length, size_t *needed);
 
-/* The same with states to go back to: as many of the newest as fit in undo_bytes bytes, up to the first that does not.
- * A state has 10 bytes, what dynamic memory then differed in from the story's file, packed, and 10 bytes for each frame
- * and 2 for each of their words. */
+/* The same with undo states: the newest ones, until the first that does not fit in undo_bytes bytes. A state has 10
+ * bytes, the packed differences between dynamic memory at that time and the story file, and 10 bytes for each frame and
+ * 2 for each word in the frames. */
 uint32_t zkit_snapshot_with_undo(zkit *game, size_t undo_bytes, uint8_t *buffer, size_t length, size_t *needed);
 
-/* How many bytes a snapshot of the game has at most, now or later, with so many bytes of states: 0 for those of
- * zkit_snapshot. It is 82,007 and the bytes of the story's dynamic memory (less than 65,536), and 10 for each frame and
- * 2 for each word that the limits allow, and undo_bytes, or SIZE_MAX where that is less. */
+/* The most bytes that a snapshot of the game can have, now or later, with this many bytes of undo states: 0 for
+ * zkit_snapshot. It is 82,007, plus the story's dynamic memory (less than 65,536), plus 10 for each frame and 2 for
+ * each word that the limits allow, plus undo_bytes; or SIZE_MAX if that is less. */
 size_t zkit_longest_snapshot(const zkit *game, size_t undo_bytes);
 
-/* Opens a game that goes on from a snapshot, in the place of the one that it was taken of: as zkit_open, with the
- * story's file and the snapshot's bytes. The game has the limits that are in the snapshot, and shows the upper window
- * in the text as that game did.
+/* Opens a game that goes on where the snapshot was taken: like zkit_open, with the story file and the snapshot's bytes.
+ * The game has the limits in the snapshot, and includes the upper window in the text if the earlier game did.
  *
- * options  the most that frames, words, undo and steps of the snapshot may be, and `room`; null for any limits, and the
- *          room that zkit_defaults says. Fields past its size are as zkit_defaults has them.
+ * options  the most that frames, words, undo and steps of the snapshot may be, and `room`; null for any limits and the
+ *          room of zkit_defaults. Fields past its size have the values of zkit_defaults.
  *
- * Of several reasons why it is not opened it is an option out of its range, then the first of the story's, then the
- * first of the snapshot's, 8 to 11, then a limit of the snapshot that is greater than the option. There may be no
- * memory at any time. */
+ * If there are several reasons not to open the game, an option out of its range comes first, then the first reason
+ * about the story, then the first about the snapshot, 8 to 11, then a limit of the snapshot that is greater than the
+ * option. Memory may run out at any point. */
 zkit *zkit_open_snapshot(const uint8_t *story, size_t length, const uint8_t *snapshot, size_t snapshot_length,
                          const zkit_options *options, uint32_t *reason);
 
@@ -332,28 +334,28 @@ zkit *zkit_open_snapshot(const uint8_t *story, size_t length, const uint8_t *sna
 typedef struct zkit_window {
     size_t size;       /* sizeof (zkit_window) */
     uint32_t height;   /* how many rows are shown: 0 to 255 */
-    uint32_t tallest;  /* the rows of the tallest grid that was shown since the last answer to a read, this one among
-                          them. Where it is more than height, its rows were taken away again before the story reads: a
-                          box that is drawn over the text */
-    uint32_t row;      /* where the cursor is, from 1 on; 256 is past the last row */
-    uint32_t column;   /* from 1 on; 81 is past the last column */
-    uint32_t selected; /* 1 where the upper window is selected, else 0 */
+    uint32_t tallest;  /* the rows of the tallest grid since the last answer to a read, this one included. If it is
+                          greater than height, the story took rows away again before it reads: a box drawn over the
+                          text */
+    uint32_t row;      /* the cursor's row, from 1 on; 256 is past the last row */
+    uint32_t column;   /* the cursor's column, from 1 on; 81 is past the last column */
+    uint32_t selected; /* 1 if the upper window is selected, else 0 */
 } zkit_window;
 
-/* Tells how the upper window stands. A size without all fields up to `selected` sets none. */
+/* Describes the upper window. If the size does not include all fields up to `selected`, sets none. */
 void zkit_window_of(const zkit *game, zkit_window *window);
 
-/* Puts the text of a row of the upper window, from 1 on, at the front of a buffer, as UTF-8 without the spaces at its
- * end, or as much of it as there is room for; answers how many bytes, at most 240. A row that is not shown has none. */
+/* Puts the text of a row of the upper window, from 1 on, at the front of a buffer, as UTF-8 without trailing spaces, or
+ * as much of it as fits; returns how many bytes, at most 240. A row that is not shown has no text. */
 size_t zkit_row(const zkit *game, uint32_t row, uint8_t *buffer, size_t length);
 
 /* The same for a row of the tallest grid since the last answer to a read. */
 size_t zkit_tallest_row(const zkit *game, uint32_t row, uint8_t *buffer, size_t length);
 
-/* What a status line shows beside its name. */
+/* What a status line shows besides its name. */
 enum {
-    ZKIT_NO_STATUS = 0,         /* the story has none: it is not of version 3, or its status line can't be read */
-    ZKIT_SCORE = 1,             /* a score and how many turns were made */
+    ZKIT_NO_STATUS = 0,         /* no status line: the story is not of version 3, or its status line can't be read */
+    ZKIT_SCORE = 1,             /* the score and the number of turns */
     ZKIT_TIME = 2               /* hours and minutes */
 };
 
@@ -365,17 +367,17 @@ typedef struct zkit_figures {
     int32_t second;
 } zkit_figures;
 
-/* Tells the figures of the status line of a story of version 3. A size without all fields up to `second` sets none. */
+/* Gives the figures of a version 3 status line. If the size does not include all fields up to `second`, sets none. */
 void zkit_status_line(const zkit *game, zkit_figures *figures);
 
-/* Puts the name in the status line of a story of version 3, which is mostly that of a place, at the front of a buffer,
- * as UTF-8, or as much of it as there is room for; answers how many bytes. Of a longer name the first 1,000 characters
- * count, and of one that has more than 65,536 words of the story, with those of abbreviations at each use, none. */
+/* Puts the name in a version 3 status line, which is usually that of a place, at the front of a buffer, as UTF-8, or as
+ * much of it as fits; returns how many bytes. The name is cut after 1,000 characters. It is empty if it has more than
+ * 65,536 words of the story, counting the words of abbreviations at each use. */
 size_t zkit_status_name(const zkit *game, uint8_t *buffer, size_t length);
 
 /* ---- about a story */
 
-/* What its file says of a story. */
+/* What the file says about its story. */
 typedef struct zkit_story {
     size_t size;       /* sizeof (zkit_story) */
     uint32_t version;
@@ -384,7 +386,7 @@ typedef struct zkit_story {
     uint8_t serial[8]; /* six bytes, mostly digits, and zeros */
 } zkit_story;
 
-/* Tells what the story's file says of it. A size without all fields up to `serial` sets none. */
+/* Gives what the file says about the story. If the size does not include all fields up to `serial`, sets none. */
 void zkit_story_of(const zkit *game, zkit_story *story);
 
 /* What zkit_list lists. */
@@ -405,20 +407,20 @@ enum {
     ZKIT_LIST_EXTENSION = 13
 };
 
-/* Lists what is in the file of the game's story, for zkit_listing, in place of what is left of an earlier listing: the
- * lines that `zkit info`, `zkit disasm` and `zkit check` show, without the name of the section. The play is not
- * changed. The whole listing is kept; a story can have texts of gigabytes, so it has at most ZKIT_LISTING bytes.
+/* Lists what is in the file of the game's story, for zkit_listing: the lines that `zkit info`, `zkit disasm` and
+ * `zkit check` show, without the name of the section. It replaces the rest of an earlier listing, and does not change
+ * the play. The library keeps the whole listing. A story's texts can print gigabytes, so a listing has at most
+ * ZKIT_LISTING bytes.
  *
  * ZKIT_DONE; ZKIT_NOT_AWAITED: there is no such listing; ZKIT_NO_MEMORY; ZKIT_LISTING_TOO_LONG: it has more bytes;
- * ZKIT_LISTING_TOO_MANY_WORDS: the texts that are looked at for it have more than ZKIT_LISTING_WORDS words of the
- * story, where those of an abbreviation count with each use. Where it is refused nothing is listed, and what was left
- * of an earlier listing is gone. */
+ * ZKIT_LISTING_TOO_MANY_WORDS: the texts for it have more than ZKIT_LISTING_WORDS words of the story, counting the
+ * words of an abbreviation at each use. After a refusal there is no listing, and the rest of an earlier one is gone. */
 uint32_t zkit_list(zkit *game, uint32_t listing);
 
-/* The same for a listing of at most so many bytes. No more than that and one byte are kept meanwhile. */
+/* The same for a listing of at most this many bytes. Meanwhile the library keeps at most one byte more than that. */
 uint32_t zkit_list_within(zkit *game, uint32_t listing, size_t most);
 
-/* Moves the next bytes of the listing into a buffer, as zkit_text. */
+/* Moves the next bytes of the listing into a buffer, like zkit_text. */
 size_t zkit_listing(zkit *game, uint8_t *buffer, size_t length);
 
 #ifdef __cplusplus

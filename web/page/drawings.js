@@ -56,9 +56,9 @@ export function drawMap(lines, length) {
 export function drawMeanings(lines) {
     const kinds = [...new Set(lines.map((line) => line.split(" ")[0]))];
     const list = made("ul", "meaning");
-    const words = kinds.map((kind) => `${kind}: ${MEANINGS[kind] || "This finding is not known here."}`);
+    const words = kinds.map((kind) => `${kind}: ${MEANINGS[kind] || "Unknown finding."}`);
     list.append(...words.map((text) => made("li", "", text)));
     if (kinds.length === 0)
-        list.append(made("li", "", "Nothing is wrong with it, as far as these tests see."));
+        list.append(made("li", "", "These checks found nothing wrong."));
     return list;
 }

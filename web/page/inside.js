@@ -20,8 +20,8 @@ const TABS = {
     objects: ["Objects", "Each object with its links, its attributes, and its properties as number:length."],
     tree: ["Tree", "The object tree."],
     dictionary: ["Dictionary", "The words that the story knows, with their addresses."],
-    abbreviations: ["Texts", "The texts that other texts abbreviate."],
-    code: ["Code", "The instructions that a run can reach from the first one on. An address leads to its line."],
+    abbreviations: ["Texts", "The abbreviations that the story's texts use."],
+    code: ["Code", "The instructions that a run can reach from the start. Choose an address to go to its line."],
 };
 
 const listing = new Listing(at("listing"));
@@ -147,7 +147,7 @@ async function show(name) {
     shown = name;
     chooseTab(name);
     at("panel").setAttribute("aria-busy", "true");
-    at("panel-words").textContent = "This is being listed.";
+    at("panel-words").textContent = "Making the listing…";
     at("listing").replaceChildren();
     at("drawing").hidden = true;
     try {
@@ -155,7 +155,7 @@ async function show(name) {
         if (shown === name)
             await fill(name, found);
     } catch (error) {
-        at("panel-words").textContent = `This can't be listed: ${error instanceof Error ? error.message : error}.`;
+        at("panel-words").textContent = `Can't make this listing: ${error instanceof Error ? error.message : error}.`;
     }
     at("panel").setAttribute("aria-busy", String(shown !== name));
 }
@@ -171,7 +171,7 @@ async function fill(name, found) {
     folded = new Set();
     field("find").value = "";
     code = name === "code" && story ? new Code(lines, story.bytes, goTo) : null;
-    at("panel-words").textContent = found === null ? "There is no memory for this listing." : TABS[name][1];
+    at("panel-words").textContent = found === null ? "There is not enough memory for this listing." : TABS[name][1];
     at("finds").hidden = lines.length === 0;
     at("listing").hidden = lines.length === 0;
     at("listing").scrollTop = 0;

@@ -60,14 +60,14 @@ export async function showLines(play, goTo) {
         return words === null ? [] : [lineOf(words, i >= shared.answers.length, () => goTo(all, i))];
     });
     if (play.later.length)
-        items.push(lineOf("(the end of these lines)", true, () => goTo(all, all.length)));
+        items.push(lineOf("(the end of the list)", true, () => goTo(all, all.length)));
     at("line-list").replaceChildren(...items);
     const address = location.href.replace(/#.*/, "") + await addressOf(shared);
     const isShort = address.length <= LONGEST_LINK;
     at("copy-link").hidden = !isShort;
     at("copy-link").textContent = "Copy a link to this play";
     at("copy-link").onclick = async () => {
-        at("copy-link").textContent = await copied(address) ? "Copied" : "Copy it from the address above";
+        at("copy-link").textContent = await copied(address) ? "Copied" : "Copy it from the address bar";
         history.replaceState(null, "", address);
     };
     at("play-file").onclick = () => giveFile(JSON.stringify(shared), `${stem(shared.name)}.play.json`);

@@ -158,6 +158,6 @@ export class Machine {
     /** Ends the worker, whatever it does. */
     drop() {
         this.worker.terminate();
-        this.fail("the worker was ended");
+        this.fail("the worker was stopped");
     }
 }

@@ -49,7 +49,7 @@ function seed() {
 
 /** Whether the reader goes on with the play of before. */
 function goesOn() {
-    return agreed("Go on?", "You have played this story here before.", "Go on where I was", "Start anew");
+    return agreed("Continue?", "You have played this story here before.", "Continue where I was", "Start over");
 }
 
 /**
@@ -58,8 +58,8 @@ function goesOn() {
  */
 function mayReplace(own) {
     const lines = own.answers.filter(isRead).length;
-    const words = `It takes the place of your own play of this story, which has ${lines} lines.`;
-    return agreed("Show the play of the link?", words, "Show it", "Keep mine");
+    const words = `It replaces your own play of this story, which has ${lines} lines.`;
+    return agreed("Show the shared play?", words, "Show it", "Keep mine");
 }
 
 export class Opening {
@@ -107,8 +107,8 @@ export class Opening {
         const ifid = await this.play.ifidOf(story.bytes);
         if (ifid === this.awaited.ifid)
             return true;
-        const words = `Its IFID is ${ifid}, and the link's is ${this.awaited.ifid}.`;
-        const isPlayed = await agreed("Another story", words, "Play it", "No");
+        const words = `Its IFID is ${ifid}, but that of the shared play is ${this.awaited.ifid}.`;
+        const isPlayed = await agreed("Play a different story?", words, "Play it", "No");
         if (isPlayed)
             this.awaited = null;
         return isPlayed;
@@ -170,7 +170,7 @@ export class Opening {
             if (story)
                 await this.open({ name: file.name, bytes: story });
             else
-                tell(`${file.name}: there is no story in this Blorb file, or it was cut off.`, true);
+                tell(`${file.name}: this Blorb file contains no story, or it was cut off.`, true);
         });
     }
 
@@ -186,8 +186,8 @@ export class Opening {
         }
         this.awaited = shared;
         const lines = shared.answers.filter(isRead).length;
-        const words = `This link shows a play of ${shared.name}, ${lines} lines long. `
-            + `Choose that story's file to see it; its IFID is ${shared.ifid}.`;
+        const words = `This is a play of ${shared.name}, ${lines} lines long. `
+            + `To see it, choose that story's file; its IFID is ${shared.ifid}.`;
         if (this.play.story)
             tell(words);
         else
@@ -211,9 +211,9 @@ export class Opening {
         if (!await this.start(story, shared.answers, shared.seed))
             return;
         if (this.play.chain.slice(0, 16) === shared.told)
-            tell("This is the play of the link, letter by letter. Go on from here, or from any of its lines.");
+            tell("This is the shared play, letter by letter. Continue from here, or from any of its lines.");
         else
-            tell("The story's text is not the link's. The story's file may be another one.", true);
+            tell("The story's text is not the same as in the shared play. Is this the right story file?", true);
     }
 
     /** Shows what the page begins with: the play of its address, or the last one, if there is one. */
@@ -243,7 +243,7 @@ export class Opening {
     async restart() {
         const { story } = this.play;
         const isNew = this.play.reads() === 0;
-        if (story && (isNew || await agreed("Restart?", "The story begins anew.", "Restart", "Go on")))
+        if (story && (isNew || await agreed("Restart?", "The story starts over.", "Restart", "Go on")))
             await this.start(story);
     }
 

@@ -51,7 +51,7 @@ const SOON = 300;
  */
 const PAUSED = {
     pause: "The story has printed a lot without asking for input.",
-    memory: "There is no memory left for the story to go on.",
+    memory: "The story can't go on: there is no memory left.",
 };
 
 /** Something else was begun meanwhile. */
@@ -292,7 +292,7 @@ export class Play {
                 throw error;
             if (this.here)
                 await this.backTo(this.here);
-            tell(`The interpreter has failed (${error.message}), and was started anew.`, true);
+            tell(`The interpreter failed (${error.message}) and was restarted.`, true);
         }
     }
 
@@ -362,7 +362,7 @@ export class Play {
     async answerFiles(standing) {
         let now = standing;
         for (let count = 1; now.awaits === "save" || now.awaits === "restore"; count++) {
-            const words = "The story asks for saved games again and again.";
+            const words = "The story keeps asking for saved games.";
             if (count > MOST_FILES && !await agreed("Go on?", words, "Go on", "Stop it"))
                 return { ...now, awaits: "halt" };
             const next = await this.fileAnswer(now.awaits);
@@ -409,9 +409,9 @@ export class Play {
      */
     async replay(answers) {
         this.isHalted = false;
-        const soon = setTimeout(() => showRunning("The play is being repeated."), SOON);
+        const soon = setTimeout(() => showRunning("Repeating the play…"), SOON);
         let standing = await this.runOn(null).finally(() => clearTimeout(soon));
-        const again = setTimeout(() => showRunning("The play is being repeated."), SOON);
+        const again = setTimeout(() => showRunning("Repeating the play…"), SOON);
         try {
             standing = await this.repeat(standing, answers);
         } finally {

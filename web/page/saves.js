@@ -182,7 +182,7 @@ async function bringIn(of, file) {
     const name = stem(file.name);
     if (!isQuetzal(image)) {
         restoring.close();
-        tell(`${file.name} is no saved game in the format Quetzal.`, true);
+        tell(`${file.name} is not a Quetzal saved game.`, true);
     } else if (await mayWrite(of, name)) {
         await write({ ...of, place: "", line: -1 }, name, image);
         await fillList(of, "Saved games", null);

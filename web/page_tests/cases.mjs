@@ -309,7 +309,7 @@ async function longPlay(page) {
     const lines = Array.from({ length: 1000 }, (_, i) => i % 2 ? "roll" : `x${randomBytes(20).toString("hex")}`);
     await page.drop(Buffer.from(JSON.stringify({ ...file, answers: lines })), "long.play.json");
     const began = Date.now();
-    await page.until(() => document.getElementById("told").textContent.includes("not the link's"));
+    await page.until(() => document.getElementById("told").textContent.includes("not the same as in the shared play"));
     const took = Date.now() - began;
     same(await page.transcript(), native(["play", "--echo", MENU], joined(lines)).text, "the transcript");
     await page.click("#show-lines");
@@ -370,7 +370,7 @@ async function failure(page) {
         };
     });
     await page.say("roll");
-    await page.until(() => document.getElementById("told").textContent.includes("was started anew"));
+    await page.until(() => document.getElementById("told").textContent.includes("was restarted"));
     await page.rests();
     await page.say("roll");
     same(await page.transcript(), native(["play", "--echo", MENU], "roll\nroll\n").text, "the transcript");
@@ -623,7 +623,7 @@ async function insideWorks(page) {
     await page.fresh();
     await page.open(z(5));
     await page.click("#show-inside");
-    await page.until(() => document.getElementById("drawing").textContent.includes("Nothing is wrong"));
+    await page.until(() => document.getElementById("drawing").textContent.includes("found nothing wrong"));
     await page.click("#tab-map");
     await page.until(() => document.querySelectorAll(".scale i").length === 8);
     const widths = await page.run(() => [...document.querySelectorAll(".scale i")].map((it) => parseFloat(it.style.width)));
