@@ -183,8 +183,8 @@ zkit *zkit_open(const uint8_t *story, size_t length, const zkit_options *options
  * words. */
 size_t zkit_text_of_open(uint32_t reason, uint8_t *buffer, size_t length);
 
-/* Writes what a file is that is no story, in words such as "it is a zip archive; unpack it", to the front of a buffer, in
- * the same way. The words go by the first bytes of the file; most files have none. */
+/* Writes what a file is that is no story, in words such as "it is a zip archive; unpack it", to the front of a buffer,
+ * in the same way. The words go by the first bytes of the file; most files have none. */
 size_t zkit_text_of_file(const uint8_t *file, size_t file_length, uint8_t *buffer, size_t length);
 
 /* Copies the story of a Blorb file (Blorb 2.0.4) to the front of a buffer of length bytes, and sets *needed to its
