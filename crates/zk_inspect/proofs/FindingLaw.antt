@@ -14,7 +14,8 @@ use Rattle.zk_inspect.specs.declared.check.finding.Number.TheVariants.{PropertyL
 use Rattle.zk_inspect.specs.declared.check.finding.Number.TheVariants.{UndecodableCode, TargetOutOfTheStory}
 use Rattle.zk_inspect.specs.declared.check.finding.Number.TheVariants.{CodeBelowTheStaticBase}
 use Rattle.zk_inspect.specs.Findings.{AreFindings, Finds, at_address, numbers}
-use Rattle.zk_inspect.specs.FindingLaws.{FindingsAreAll, OneListOfFindings, Precedes, rank_of}
+use Rattle.zk_inspect.specs.FindingLaws.{FindingsAreAll, OneListOfFindings, Precedes}
+use Rattle.zk_inspect.specs.FindingLines.{finding_number}
 use Rattle.zk_inspect.proofs.OneList.{behind, behind_above, first_or, one_list}
 
 -- ---- members
@@ -134,13 +135,13 @@ order_map n (x ∷ xs) up = (
 -- the ranks of numbers rise from one on
 abbrev RisesFrom : ℕ → List Number → Type 0
 RisesFrom b [] = Unit {0}
-RisesFrom b (n ∷ ns) = (b ≤ rank_of n) × RisesFrom (rank_of n + 1) ns
+RisesFrom b (n ∷ ns) = (b ≤ finding_number n) × RisesFrom (finding_number n + 1) ns
 
-rises_to : (b : ℕ) (ns : List Number) (k : Number) → RisesFrom b ns → Contains ns k → b ≤ rank_of k
+rises_to : (b : ℕ) (ns : List Number) (k : Number) → RisesFrom b ns → Contains ns k → b ≤ finding_number k
 rises_to b [] k h c = absurd (none_in k c)
 rises_to b (n ∷ ns) k h c = elim (first_rest n k ns c) [
-  | inl e ↦ subst (λ (j : Number). b ≤ rank_of j) e h.0
-  | inr r ↦ (let rest = rises_to (rank_of n + 1) ns k h.1 r in let low = h.0 in omega arith)
+  | inl e ↦ subst (λ (j : Number). b ≤ finding_number j) e h.0
+  | inr r ↦ (let rest = rises_to (finding_number n + 1) ns k h.1 r in let low = h.0 in omega arith)
 ]
 
 order_numbers : (addresses : Number → List ℕ) → ((n : Number) → IsStrictlyIncreasing (addresses n))
@@ -148,12 +149,12 @@ order_numbers : (addresses : Number → List ℕ) → ((n : Number) → IsStrict
 order_numbers addresses up b [] h = tt
 order_numbers addresses up b (n ∷ ns) h = order_append (map (at_address n) (addresses n)) (behind_another addresses ns)
     (order_map n (addresses n) (up n))
-    (order_numbers addresses up (rank_of n + 1) ns h.1)
+    (order_numbers addresses up (finding_number n + 1) ns h.1)
     (λ f g c d.
     (let p = at_one n (addresses n) f c in
     let q = is_of addresses ns g d in
-    let high = rises_to (rank_of n + 1) ns g.number h.1 q.number in
-    let same : rank_of f.number ≡ rank_of n = ap rank_of p.0 in
+    let high = rises_to (finding_number n + 1) ns g.number h.1 q.number in
+    let same : finding_number f.number ≡ finding_number n = ap finding_number p.0 in
     inl (omega arith)))
 
 rises : RisesFrom 1 numbers

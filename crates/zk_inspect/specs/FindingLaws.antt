@@ -4,31 +4,12 @@ use Rattle.std.specs.List.{Contains}
 use Rattle.zk_mem.specs.Map.{MemoryMap}
 use Rattle.zk_inspect.specs.declared.check.finding.Finding.{Finding}
 use Rattle.zk_inspect.specs.declared.check.finding.Number.{Number}
-use Rattle.zk_inspect.specs.declared.check.finding.Number.TheVariants.{Checksum, Length, DictionaryOrder}
-use Rattle.zk_inspect.specs.declared.check.finding.Number.TheVariants.{DictionaryExtent, ObjectLinks, ChainWithARepeat}
-use Rattle.zk_inspect.specs.declared.check.finding.Number.TheVariants.{PropertyList, TextPastTheEnd, NestedAbbreviation}
-use Rattle.zk_inspect.specs.declared.check.finding.Number.TheVariants.{UndecodableCode, TargetOutOfTheStory}
-use Rattle.zk_inspect.specs.declared.check.finding.Number.TheVariants.{CodeBelowTheStaticBase}
+use Rattle.zk_inspect.specs.FindingLines.{finding_number}
 use Rattle.zk_inspect.specs.Findings.{AreFindings, Finds, at_address}
-
--- the numbers that reports show
-abbrev pub rank_of : Number → ℕ
-rank_of Checksum = 1
-rank_of Length = 2
-rank_of DictionaryOrder = 3
-rank_of DictionaryExtent = 4
-rank_of ObjectLinks = 5
-rank_of ChainWithARepeat = 6
-rank_of PropertyList = 7
-rank_of TextPastTheEnd = 8
-rank_of NestedAbbreviation = 9
-rank_of UndecodableCode = 10
-rank_of TargetOutOfTheStory = 11
-rank_of CodeBelowTheStaticBase = 12
 
 -- a finding comes before another: by its number, then by its address
 abbrev pub Precedes : Finding → Finding → Type 0
-Precedes f g = (rank_of f.number < rank_of g.number) ⊎ ((f.number ≡ g.number) × (f.address < g.address))
+Precedes f g = (finding_number f.number < finding_number g.number) ⊎ ((f.number ≡ g.number) × (f.address < g.address))
 
 -- the findings are all that is wrong, each comes before those after it, and there are none where nothing is wrong
 pub record AreAllFindings (m : MemoryMap) (fs : List Finding) : Type 0 where

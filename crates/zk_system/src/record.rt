@@ -64,7 +64,7 @@ impl Target for Record<'_> {
 }
 
 /// Writes a comment that sets something.
-#[tactic(auto, unfolding(zk_program::specs::Records::setting))]
+#[tactic(auto, unfolding(crate::specs::Records::setting))]
 fn write_setting<P: LineWriter>(writer: &mut P, name: &[u8], value: &[u8])
     ensures { P.wrote writer.old writer.new (setting name.now value.now) }
 {
@@ -80,7 +80,7 @@ fn write_number<P: LineWriter>(writer: &mut P, name: &[u8], number: u64)
 }
 
 /// Writes the comments that set the limits on frames and words.
-#[tactic(auto, unfolding(zk_program::specs::Records::frame_settings))]
+#[tactic(auto, unfolding(crate::specs::Records::frame_settings))]
 fn write_frame_limits<P: LineWriter>(writer: &mut P, limits: Limits)
     ensures { P.wrote writer.old writer.new (frame_settings limits) }
 {
@@ -89,7 +89,7 @@ fn write_frame_limits<P: LineWriter>(writer: &mut P, limits: Limits)
 }
 
 /// Writes the comments that set the limits on states to go back to and on steps.
-#[tactic(auto, unfolding(zk_program::specs::Records::run_settings))]
+#[tactic(auto, unfolding(crate::specs::Records::run_settings))]
 fn write_run_limits<P: LineWriter>(writer: &mut P, limits: Limits)
     ensures { P.wrote writer.old writer.new (run_settings limits) }
 {
@@ -98,7 +98,7 @@ fn write_run_limits<P: LineWriter>(writer: &mut P, limits: Limits)
 }
 
 /// Writes the comment that sets the view, where it is not the plain one.
-#[tactic(auto, unfolding(zk_program::specs::Records::view_setting))]
+#[tactic(auto, unfolding(crate::specs::Records::view_setting))]
 fn write_view<P: LineWriter>(writer: &mut P, view: View)
     ensures { P.wrote writer.old writer.new (view_setting view) }
 {
@@ -109,7 +109,7 @@ fn write_view<P: LineWriter>(writer: &mut P, view: View)
 }
 
 /// Writes the comment that sets the columns of the screen, where lines are wrapped.
-#[tactic(auto, unfolding(zk_program::specs::Records::width_setting))]
+#[tactic(auto, unfolding(crate::specs::Records::width_setting))]
 fn write_width<P: LineWriter>(writer: &mut P, width: Option<u8>)
     ensures { P.wrote writer.old writer.new (width_setting width) }
 {
@@ -137,7 +137,7 @@ fn write_limits<P: LineWriter>(writer: &mut P, limits: Limits)
 }
 
 /// Writes the comments that set the story, the seed and the limits.
-#[tactic(auto, unfolding(zk_program::specs::Records::play_settings))]
+#[tactic(auto, unfolding(crate::specs::Records::play_settings))]
 fn write_play<P: LineWriter>(writer: &mut P, story: &str, settings: &Settings)
     ensures { P.wrote writer.old writer.new (play_settings story.now settings.now) }
 {
@@ -154,7 +154,7 @@ fn write_look<P: LineWriter>(writer: &mut P, view: View, width: Option<u8>)
 }
 
 /// Writes the comments that begin a record.
-#[tactic(auto, unfolding(zk_program::specs::Records::record_heading))]
+#[tactic(auto, unfolding(crate::specs::Records::record_heading))]
 fn write_comments<P: LineWriter>(
     writer: &mut P,
     story: &str,
