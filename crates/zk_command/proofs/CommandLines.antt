@@ -1,6 +1,7 @@
 -- What clap finds in the arguments of the command line.
 use Rattle.std.proofs.Common.{◌≡◌, ◌∙◌, ◌<◌, ◌≤◌, ◌⊎◌, inl, inr, ℕ, zero, suc, List, [], ◌∷◌, ◌++◌, length, take}
-use Rattle.std.proofs.Common.{cond, filter, get_or}
+use Rattle.std.proofs.Common.{append-nil, cond, filter, get_or, ◌==◌}
+use Rattle.std.proofs.lemmas.Bool.Decides.{nat_tests}
 use Rattle.std.proofs.Common.{Option, Some, None, IfNone, IfSome, codes, refl, sym, ap, arith, subst, Bool, true, false}
 use Rattle.std.specs.Prelude.{SomeIff, IsSomeAnd, map, option_map, unwrap_or}
 use Rattle.std.specs.Str.{bytes_eq}
@@ -16,7 +17,10 @@ use Rattle.zk_command.specs.declared.settings.Amount.{Amount}
 use Rattle.zk_command.specs.declared.settings.PlayOptions.{PlayOptions}
 use Rattle.zk_command.specs.CommandLine.{Asks, IsAmount, IsNumberIn, IsOtherName, IsRefusedWith, MaySayAmount, MetSays}
 use Rattle.zk_command.specs.CommandLine.{Says, SaysAsked, SaysOptions, SaysNumber, SaysStory, command_line, flag_said}
-use Rattle.zk_command.specs.CommandLine.{number_in, option_rule, table_command, usage_status, with_rules, with_tables}
+use Rattle.zk_command.specs.CommandLine.{number_in, option_rule, or_header, table_command, usage_status, with_rules}
+use Rattle.zk_command.specs.CommandLine.{with_tables}
+use Rattle.zk_inspect.specs.declared.section.Section.{Section}
+use Rattle.zk_inspect.specs.declared.section.Section.TheVariants.{Header}
 use Rattle.zk_command.specs.declared.choice.Choice.{Choice}
 use Rattle.zk_command.specs.declared.options.CommandOption.{CommandOption}
 use Rattle.zk_command.specs.declared.options.CommandTable.{CommandTable}
@@ -52,6 +56,34 @@ filter_more {X} test (x ∷ xs) (suc i) d h = kept (test x) _ _ _ (filter_more t
     kept : (b : Bool) (s t u : List X) → s ≡ t ++ u → cond b (x ∷ s) s ≡ cond b (x ∷ t) t ++ u
     kept true s t u k = ap (λ (ys : List X). x ∷ ys) k
     kept false s t u k = k
+
+-- one that is kept, and one that is not
+pub kept_more : {X : Type 0} (test : X → Bool) (xs : List X) (i : ℕ) (d : X) (kept next : List X) → i < length xs
+    → kept ≡ filter test (take i xs) → next ≡ kept ++ get_or xs i d ∷ [] → true ≡ test (get_or xs i d)
+    → next ≡ filter test (take (suc i) xs)
+kept_more {X} test xs i d kept next lt h e t =
+    e ∙ ap (λ (ys : List X). ys ++ get_or xs i d ∷ []) h ∙ sym (filter_more test xs i d lt
+    ∙ ap (λ (b : Bool). filter test (take i xs) ++ cond b (get_or xs i d ∷ []) []) (sym t))
+
+pub kept_less : {X : Type 0} (test : X → Bool) (xs : List X) (i : ℕ) (d : X) (kept next : List X) → i < length xs
+    → kept ≡ filter test (take i xs) → next ≡ kept → false ≡ test (get_or xs i d)
+    → next ≡ filter test (take (suc i) xs)
+kept_less {X} test xs i d kept next lt h e t = e ∙ h ∙ sym (filter_more test xs i d lt
+    ∙ ap (λ (b : Bool). filter test (take i xs) ++ cond b (get_or xs i d ∷ []) []) (sym t) ∙ append-nil _)
+
+-- the header alone where no section is named, and else those that are
+pub header_said : (xs named next : List Section) → xs ≡ named → (length xs == 0) ≡ true
+    → next ≡ xs ++ Header ∷ [] → next ≡ or_header named
+header_said [] named next is e h = h ∙ ap or_header is
+header_said (x ∷ xs) named next is e h =
+    let some : (suc (length xs) == 0) ≡ false = grind (arith, nat_tests) in
+    let both : true ≡ false = sym e ∙ some in
+    absurd cc
+
+pub others_said : (xs named next : List Section) → xs ≡ named → (length xs == 0) ≡ false → next ≡ xs
+    → next ≡ or_header named
+others_said [] named next is e h = let both : true ≡ false = e in absurd cc
+others_said (x ∷ xs) named next is e h = h ∙ ap or_header is
 
 -- one command more
 pub tables_more : (a : App) (ts : List CommandTable) (i : ℕ) (d : CommandTable) → i < length ts

@@ -145,7 +145,8 @@ fn section_option_of<'a>(alloc: Global, section: Section) -> Arg<'a>
     ensures rule { rule_of result ≡ section_rule section }
     ensures local { result.global ≡ false }
 {
-    option_named(alloc, section.name(), section.help()).action(ArgAction::SetTrue)
+    let (name, help): (&'a str, &'a str) = (section.name(), section.help());
+    option_named(alloc, name, help).action(ArgAction::SetTrue)
 }
 
 /// A command with the flags of sections as well.

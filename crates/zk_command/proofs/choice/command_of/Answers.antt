@@ -8,10 +8,10 @@ use Rattle.zk_command.proofs.choice.command_of.Goals as goal
 pub loop-option-preserved : goal.loop-option-preserved
 loop-option-preserved c = record {
   shape =
-      rw (add-one c.loop-option.option-index) (c.in_ok-command.ensures.shape
+      rw (add-one c.loop-option.option-index) (c.in_ok-command-2.ensures.shape
       ∙ ap₂ with_rule c.loop-option.invariant.shape c.option_of.ensures.rule
       ∙ sym (rules_more option_rule _ c.args.table.options.now c.loop-option.option-index _ c.loop-option-test.true));
-  local = c.in_ok-command.ensures.local;
+  local = c.in_ok-command-2.ensures.local;
 }
 
 pub returns-clause-shape : goal.returns-clause-shape
