@@ -1,6 +1,6 @@
 """The crates of the repository, and the functions of their sources.
 
-Sources are read by their lines, as `rt fmt` lays them out. `edits.py` and the scripts in `docs` stand on this.
+Sources are read by their lines, as `rt fmt` lays them out. `edits.py` and the scripts in `tools` stand on this.
 """
 
 from __future__ import annotations

@@ -1,7 +1,7 @@
 #!/usr/bin/env python3
 """Looks whether what docs/PROVED.md cites is there: each call and clause, each law and definition, each file.
 
-usage: docs/proved.py [--write]
+usage: tools/proved.py [--write]
 
 A row of a table of promises cites, in its second column, in parts that semicolons divide:
 

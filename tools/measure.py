@@ -1,7 +1,7 @@
 #!/usr/bin/env python3
 """Measures how fast zkit plays stories beside two other interpreters, and prints one table.
 
-usage: docs/measure.py [--rounds N] [--count] [--zkit PATH] [--dfrotz PATH] [--bocfel PATH] [STORY | STORY:LINES]...
+usage: tools/measure.py [--rounds N] [--count] [--zkit PATH] [--dfrotz PATH] [--bocfel PATH] [STORY | STORY:LINES]...
 
 The others are dfrotz 2.55 and bocfel 2.5:
 
@@ -57,7 +57,7 @@ class Options:
 
 def fail(text: str) -> NoReturn:
     """Ends the script with what is wrong."""
-    sys.exit(f"docs/measure.py: {text}")
+    sys.exit(f"tools/measure.py: {text}")
 
 
 def command_of(name: str, given: str | None) -> list[str]:
@@ -110,7 +110,7 @@ def ratio(times: dict[str, float]) -> float:
 
 def read_options() -> Options:
     """What the command line says."""
-    words = argparse.ArgumentParser(prog="docs/measure.py", description=__doc__.split("\n")[0])
+    words = argparse.ArgumentParser(prog="tools/measure.py", description=__doc__.split("\n")[0])
     words.add_argument("--rounds", type=int, default=9, metavar="N", help="how often each program plays each story; 9")
     words.add_argument("--count", action="store_true", help="count instructions of the processor too, by valgrind")
     for name in OPTIONS:

@@ -2,7 +2,7 @@
 """Looks whether lines have at most 120 columns: those of pages, tables and what stands between fences apart, of the
 crates, and of the C, the JavaScript and the Python.
 
-usage: docs/columns.py
+usage: tools/columns.py
 
 It tells each longer one, and the status is then 1.
 """
@@ -15,7 +15,7 @@ from pathlib import Path
 
 TOP = Path(__file__).resolve().parent.parent
 MOST = 120
-FOLDERS = ("conformance", "docs", "examples", "include", "library", "linux", "web", *(
+FOLDERS = ("conformance", "docs", "examples", "include", "library", "linux", "tools", "web", *(
     f"crates/{it.parent.name}/{it.name}" for part in ("src", "specs", "proofs") for it in TOP.glob(f"crates/*/{part}")))
 PATTERNS = ("*.md", "*.c", "*.h", "*.js", "*.py", "*.rt", "*.antt")
 

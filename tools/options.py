@@ -1,7 +1,7 @@
 #!/usr/bin/env python3
 """Puts the options of the command line and what findings mean into the pages that list them.
 
-usage: docs/options.py [--write]
+usage: tools/options.py [--write]
 
 The table of options is crates/zk_command/src/options.rt. From it come the usage in README.md, the manual and
 docs/zkit.1, and the ranges and defaults in the manual's table, in the page for man and in include/zkit.h. The words of
@@ -189,7 +189,7 @@ def main() -> int:
             path.write_text(pages[path], "utf-8")
         return 0
     for path in wrong:
-        print(f"{path.relative_to(TOP)}: it says something else than the sources: docs/options.py --write")
+        print(f"{path.relative_to(TOP)}: it says something else than the sources: tools/options.py --write")
     return 1 if wrong else 0
 
 

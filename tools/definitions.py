@@ -1,9 +1,9 @@
 #!/usr/bin/env python3
 """Tells what zkit says of a part of the Standard: its definitions, what carries and guards them, and the rows.
 
-usage: docs/definitions.py QUERY..    prints what there is on each query, and fails where there is nothing
-       docs/definitions.py            writes docs/DEFINITIONS.md, the table of all sections
-       docs/definitions.py --check    writes nothing, and fails where the page is not what it would write
+usage: tools/definitions.py QUERY..    prints what there is on each query, and fails where there is nothing
+       tools/definitions.py            writes docs/DEFINITIONS.md, the table of all sections
+       tools/definitions.py --check    writes nothing, and fails where the page is not what it would write
 
 A query is one of these:
 
@@ -72,13 +72,13 @@ HEAD = """\
 # Definitions
 
 What zkit has on each section of the Z-Machine Standards Document 1.1, and of Quetzal 1.4: the definitions that its
-contracts cite, their examples, and rows of conformance. `docs/definitions.py` wrote this page from `crates/*/specs`,
+contracts cite, their examples, and rows of conformance. `tools/definitions.py` wrote this page from `crates/*/specs`,
 `crates/*/src` and `conformance/*.rows`: change those, run it, and leave the page alone. It also prints the rest:
 
 ```
-docs/definitions.py 12.4           what there is on a section, with those inside it; 12 is a chapter
-docs/definitions.py print_paddr    on an opcode
-docs/definitions.py dictionary     on a word of a definition's name or meaning
+tools/definitions.py 12.4          what there is on a section, with those inside it; 12 is a chapter
+tools/definitions.py print_paddr   on an opcode
+tools/definitions.py dictionary    on a word of a definition's name or meaning
 ```
 
 Of each definition it prints the kind, the meaning, the file and the line, the public functions that carry it, the
@@ -910,7 +910,7 @@ def print_answers(queries: list[str], book: Book) -> int:
         print("\n\n".join("\n".join(answer_lines(found)) for found in answers if found))
     for query, found in zip(queries, answers):
         if not found:
-            print(f"docs/definitions.py: there is nothing on {query}", file=sys.stderr)
+            print(f"tools/definitions.py: there is nothing on {query}", file=sys.stderr)
     return 0 if all(answers) else 1
 
 
@@ -929,7 +929,7 @@ def main(words: list[str]) -> int:
     elif words != ["--check"]:
         return print_answers(words, book)
     elif not PAGE.exists() or PAGE.read_text("utf-8") != page(book):
-        print("docs/DEFINITIONS.md is not what docs/definitions.py writes: run it", file=sys.stderr)
+        print("docs/DEFINITIONS.md is not what tools/definitions.py writes: run it", file=sys.stderr)
         return 1
     return 0
 

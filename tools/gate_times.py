@@ -1,7 +1,7 @@
 #!/usr/bin/env python3
 """Measures what it takes to prove each crate from nothing, and prints the table of docs/PROVING.md, or writes it there.
 
-usage: docs/gate_times.py [--write] [--jobs N]
+usage: tools/gate_times.py [--write] [--jobs N]
 
 Each crate is checked in a copy of the repository over nothing that was kept, by one job. How long a function takes is
 read off the files that the check leaves, by the times at which they were written.
@@ -29,7 +29,7 @@ sys.path.append(str(TOP / "conformance"))
 import sources  # noqa: E402: it stands in the folder that was just named
 
 PAGE = TOP / "docs/PROVING.md"
-BEGIN, END = "<!-- the table of docs/gate_times.py begins -->\n", "<!-- the table of docs/gate_times.py ends -->\n"
+BEGIN, END = "<!-- the table of tools/gate_times.py begins -->\n", "<!-- the table of tools/gate_times.py ends -->\n"
 DEAREST = 3
 
 
@@ -70,7 +70,7 @@ def toolchain() -> Toolchain:
     """The module, which stands beside the command `rt`."""
     command = shutil.which("rt")
     if not command:
-        sys.exit("docs/gate_times.py: there is no command rt")
+        sys.exit("tools/gate_times.py: there is no command rt")
     sys.path.append(str(pathlib.Path(command).resolve().parent))
     return cast(Toolchain, importlib.import_module("rtlib"))
 
@@ -136,7 +136,7 @@ def table(rows: list[Measured]) -> str:
 
 def main() -> None:
     """Measures all crates, and prints or writes the table."""
-    words = argparse.ArgumentParser(prog="docs/gate_times.py", description=__doc__.split("\n")[0])
+    words = argparse.ArgumentParser(prog="tools/gate_times.py", description=__doc__.split("\n")[0])
     words.add_argument("--write", action="store_true", help="write the table into docs/PROVING.md")
     words.add_argument("--jobs", type=int, default=1, help="how many crates are checked side by side")
     options = words.parse_args(namespace=Options())
