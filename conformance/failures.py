@@ -21,75 +21,13 @@ from collections import Counter
 from collections.abc import Callable, Iterator, Sequence
 from typing import NamedTuple
 
-from cases import EXAMPLES, SECONDS, Program, compiler, preloaded, story, takes_preloaded
+from case_files import story
+from cases import EXAMPLES, SECONDS, Program, compiler, preloaded, takes_preloaded
 
 # Of a run with more allocations than this some are left out.
 MOST = 1_000
 # So many at both ends of such a run are taken all the same.
 ENDS = 50
-
-# Counts the allocations from `main` on, refuses the one whose number REFUSED says, and leaves their count in the file
-# ASKED.
-PRELOADED = """
-#define _GNU_SOURCE
-#include <dlfcn.h>
-#include <errno.h>
-#include <fcntl.h>
-#include <stdlib.h>
-#include <unistd.h>
-
-void *__libc_malloc(size_t size);
-void *__libc_calloc(size_t count, size_t size);
-void *__libc_realloc(void *block, size_t size);
-void *__libc_memalign(size_t step, size_t size);
-
-typedef int main_function(int, char **, char **);
-typedef int start_function(main_function *, int, char **, void (*)(void), void (*)(void), void (*)(void), void *);
-
-static main_function *real_main;
-static long refused, asked;
-static int counts;
-
-static int refuses(void) {
-    if (!counts || ++asked != refused) return 0;
-    errno = ENOMEM;
-    return 1;
-}
-
-void *malloc(size_t size) { return refuses() ? 0 : __libc_malloc(size); }
-void *calloc(size_t count, size_t size) { return refuses() ? 0 : __libc_calloc(count, size); }
-void *realloc(void *block, size_t size) { return refuses() ? 0 : __libc_realloc(block, size); }
-void *memalign(size_t step, size_t size) { return refuses() ? 0 : __libc_memalign(step, size); }
-void *aligned_alloc(size_t step, size_t size) { return refuses() ? 0 : __libc_memalign(step, size); }
-
-int posix_memalign(void **block, size_t step, size_t size) {
-    void *made = refuses() ? 0 : __libc_memalign(step, size);
-    if (!made) return ENOMEM;
-    *block = made;
-    return 0;
-}
-
-static int counted_main(int count, char **words, char **variables) {
-    counts = 1;
-    return real_main(count, words, variables);
-}
-
-int __libc_start_main(main_function *main, int count, char **words, void (*begin)(void), void (*end)(void),
-                      void (*unload)(void), void *stack) {
-    const char *number = getenv("REFUSED");
-    refused = number ? atol(number) : 0;
-    real_main = main;
-    start_function *start = dlsym(RTLD_NEXT, "__libc_start_main");
-    return start(counted_main, count, words, begin, end, unload, stack);
-}
-
-__attribute__((destructor)) static void tell(void) {
-    const char *path = getenv("ASKED");
-    int file = path ? creat(path, 0600) : -1;
-    if (file < 0 || write(file, &asked, sizeof asked) < 0) _exit(99);
-    close(file);
-}
-"""
 
 # The name of the file beside `kept` that a save writes: where a folder has it, a save fails, and a restore does not.
 BESIDE = ".zkit-583876d75cd7d1d9"
@@ -100,7 +38,7 @@ NOT_SAVED = re.compile(r"(?<=: the game was not saved: ).*")
 # Restores a game, saves another, and restores that; the input ends there.
 RESTORED = b"restore\ninventory\ndrop letter\nsave\ntake letter\nrestore\ninventory\n"
 # A story of version 5 that keeps a state by `save_undo`, shows the answer and ends.
-KEEPING = story("be 09 ff 00 e6 bf 00 ba", version=5)
+KEEPING = story(5, [(0x40, bytes.fromhex("be 09 ff 00 e6 bf 00 ba"))])
 # How many bytes of the game are cut off for a check that finds something.
 CUT_OFF = 2_048
 SECTIONS = ("--header", "--map", "--abbreviations", "--dictionary", "--objects", "--tree")
@@ -273,7 +211,7 @@ def main() -> None:
         print("left out, as the program is static: the runs with refused memory")
         return
     with tempfile.TemporaryDirectory() as place:
-        library = preloaded(PRELOADED, pathlib.Path(place))
+        library = preloaded("refused_memory.c", pathlib.Path(place))
         counts: Counter[str] = Counter()
         with concurrent.futures.ThreadPoolExecutor(os.cpu_count()) as pool:
             for plan in plans():

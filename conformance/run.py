@@ -127,10 +127,10 @@ class BadRow(Exception):
 
 
 def unquote(text: str) -> bytes:
-    """The bytes of a text in double quotes: UTF-8, with a new line as \\n and any byte as \\x and two digits."""
+    """The bytes of a text in double quotes: UTF-8, \\n for a new line, \\t for a tab, \\x and digits for others."""
     if len(text) < 2 or text[0] != '"' or text[-1] != '"':
         raise BadRow("a screen, a transcript or an input is a text in double quotes")
-    signs = {"n": b"\n", '"': b'"', "\\": b"\\"}
+    signs = {"n": b"\n", "t": b"\t", '"': b'"', "\\": b"\\"}
     plain, *others = re.split(r"\\(x[0-9A-Fa-f]{2}|.)", text[1:-1])
     made = plain.encode()
     for sign, plain in zip(others[::2], others[1::2]):

@@ -18,7 +18,7 @@ TOP = pathlib.Path(__file__).resolve().parent.parent
 sys.dont_write_bytecode = True
 sys.path[:0] = [str(TOP / "conformance"), str(TOP / "examples/embed")]
 
-import cases  # noqa: E402: these stand in the folders that were just named
+import case_files  # noqa: E402: these stand in the folders that were just named
 import large_stories  # noqa: E402
 import run  # noqa: E402
 
@@ -58,16 +58,10 @@ def row(rows: list[run.Row], dice: random.Random) -> tuple[bytes, bytes]:
 
 def code(dice: random.Random) -> tuple[bytes, bytes]:
     """A story of random bytes."""
-    story = cases.story(
-        dice.randbytes(LENGTH - CODE).hex(),
-        version=dice.choice(VERSIONS),
-        x06=dice.randrange(CODE, LENGTH),
-        x08=dice.randrange(CODE, LENGTH),
-        x0a=OBJECTS,
-        x0c=GLOBALS,
-        x0e=STATIC,
-    )
-    return story, b""
+    content, version = dice.randbytes(LENGTH - CODE), dice.choice(VERSIONS)
+    start, dictionary = (dice.randrange(CODE, LENGTH) for _ in range(2))
+    header = b"".join(it.to_bytes(2, "big") for it in (start, dictionary, OBJECTS, GLOBALS, STATIC))
+    return case_files.story(version, [(0x06, header), (CODE, content)]), b""
 
 
 def made(number: int, rows: list[run.Row]) -> tuple[bytes, bytes]:

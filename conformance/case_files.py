@@ -1,0 +1,271 @@
+"""Reads the files `*.cases`, and runs what stands in them: words of the program, with what has to come of them.
+
+README.md describes their lines. They are run by `program.py` and `sessions.py`.
+"""
+
+from __future__ import annotations
+
+import os
+import re
+import sys
+from collections.abc import Iterable, Iterator
+from dataclasses import dataclass, field, replace
+from pathlib import Path
+
+from cases import ANY, EXAMPLES, SOME, Program, begins, has, last, same, text_of
+from run import BadRow, unquote
+
+CODE = 0x40
+STATUS = {"quit": 0, "usage": 1, "refused": 1, "fault": 2, "limit": 3, "read": 4, "write": 4}
+END = re.compile(r"quit|usage|(read|write) failed|refused \d|(fault|limit) \d+ at [0-9a-f]{5}")
+QUOTED = r'"(?:[^"\\]|\\.)*"'
+WORD = rf"{QUOTED}|\{{[^{{}}]*\}}|[^\s\"{{}}]+"
+WORDS = re.compile(rf"(?:\s*(?:{WORD})(?!\S))*\s*")
+NAMED = re.compile(rf"({QUOTED}|[^\s\":]+):(?:\s+(.*))?")
+# Words of lines that may stand more than once for a run, and those of which one has to.
+OFTEN = {"run", "write", "folder", "holds"}
+ENDINGS = {"end", "status", "screen", "errors", "last", "told", "holds"}
+
+
+@dataclass
+class Run:
+    """A run of the program, or several ones that all come to the same."""
+
+    place: str  # of its first line
+    words: list[str] = field(default_factory=list)  # those of each run, as they are written
+    said: set[str] = field(default_factory=set)  # the first words of its lines
+    before: dict[str, bytes] = field(default_factory=dict)  # files that are written before it
+    folders: list[str] = field(default_factory=list)  # and folders that are made
+    typed: bytes = b""
+    redirected: str = ""  # as by a shell
+    status: object = 0
+    screen: object = ""
+    errors: object = ""
+    told: str = ""  # the lines of errors before the last, where they are said,
+    last: str = ""  # and that one
+    holds: dict[str, object] = field(default_factory=dict)  # what files hold after it, None for one that is not there
+
+
+@dataclass
+class Case:
+    """A case: the runs that stand in it."""
+
+    name: str
+    runs: list[Run] = field(default_factory=list)
+
+
+def story(version: int, pieces: Iterable[tuple[int, bytes]]) -> bytes:
+    """A story that has some bytes at their addresses, and else what a header needs."""
+    image = bytearray(CODE)
+    for at, content in ((0, bytes([version])), (4, b"\0@\0@"), (0x0E, b"\0@"), (0x12, b"000000"), *pieces):
+        image.extend(bytes(max(0, at + len(content) - len(image))))
+        image[at:at + len(content)] = content
+    return bytes(image)
+
+
+def words_of(text: str) -> list[str]:
+    """The words of a text: those in quotes, those in braces, and others."""
+    if not WORDS.fullmatch(text):
+        raise BadRow("a quote or a brace is not closed, or stands in a word")
+    return re.findall(WORD, text)
+
+
+def word_bytes(word: str) -> bytes:
+    """The bytes of a word of a command line."""
+    return unquote(word) if word.startswith('"') else word.encode()
+
+
+def name_and_rest(text: str) -> tuple[str, list[str]]:
+    """The name that a text begins with, and the words behind its colon."""
+    found = NAMED.fullmatch(text)
+    if not found:
+        raise BadRow("a name and a colon are needed")
+    return text_of(word_bytes(found[1])), words_of(found[2] or "")
+
+
+class Book:
+    """What a file has: the files of its runs, texts by their names, and cases."""
+
+    def __init__(self, path: Path) -> None:
+        self.path = path
+        self.files: dict[str, bytes] = {}
+        self.texts: dict[str, bytes] = {}
+        self.cases: list[Case] = []
+        self.in_case = False
+        self.open: Run | None = None
+        for number, line in self.lines():
+            try:
+                self.take(line, f"{path.name}:{number}")
+            except (BadRow, ValueError, KeyError, OSError) as error:
+                sys.exit(f"{path.name}:{number}: {error}")
+
+    def lines(self) -> Iterator[tuple[int, str]]:
+        """The lines that are no comments, each with those behind it that begin with a space, and an empty one."""
+        number, whole = 0, ""
+        for at, line in enumerate([*self.path.read_text(encoding="utf-8").split("\n"), ""], 1):
+            if line.startswith(" ") and whole:
+                whole += line
+            elif not line.startswith("#"):
+                yield number, whole
+                number, whole = at, line
+        yield number, whole
+
+    def take(self, line: str, place: str) -> None:
+        """Takes a line; an empty one ends what is said of a run."""
+        word, _, rest = line.partition(" ")
+        if not line:
+            self.close()
+        elif self.open is None and word in ("story", "file", "text"):
+            name, words = name_and_rest(rest)
+            if name in self.files or name in self.texts:
+                raise BadRow(f"{name} stands twice")
+            into = self.texts if word == "text" else self.files
+            into[name] = self.read_story(name, words) if word == "story" else self.read_bytes(words)
+        elif self.open is None and word == "from":
+            name, words = name_and_rest(rest)
+            other = Book(self.path.with_name(name))
+            for it in words:
+                (self.files if it in other.files else self.texts)[it] = other.named(it)
+        elif self.open is None and word == "case":
+            self.in_case = True
+            self.cases.append(Case(rest))
+        else:
+            self.open = self.open or Run(place)
+            self.take_of_run(self.open, word, rest)
+
+    def take_of_run(self, run: Run, word: str, rest: str) -> None:
+        """Takes a line on a run."""
+        if word in run.said - OFTEN:
+            raise BadRow(f"{word} stands twice")
+        run.said.add(word)
+        if word == "run":
+            words_of(rest)
+            run.words.append(rest)
+        elif word == "write":
+            name, words = name_and_rest(rest)
+            run.before[name] = self.read_bytes(words)
+        elif word == "folder":
+            run.folders.append(rest)
+        elif word == "holds":
+            name, words = name_and_rest(rest)
+            run.holds[name] = None if words == ["nothing"] else self.read_wanted(words)
+        elif word == "input":
+            run.typed = self.read_bytes(words_of(rest))
+        elif word == "redirect":
+            run.redirected = rest
+        elif word == "status":
+            run.status = ANY if rest == "anything" else int(rest)
+        elif word in ("screen", "errors"):
+            setattr(run, word, self.read_wanted(words_of(rest)))
+        elif word in ("last", "told"):
+            setattr(run, word, text_of(self.read_bytes(words_of(rest))))
+        elif word == "end" and END.fullmatch(rest):
+            run.status = STATUS[rest.split()[0]]
+            run.last = f"zkit: {rest}" if run.status else ""
+        else:
+            raise BadRow(f"no such line may stand here: {word} {rest}")
+
+    def close(self) -> None:
+        """Adds what was said of a run: to the case that is open, or as a case for each of its command lines."""
+        run, self.open = self.open, None
+        if run is None:
+            return
+        if not run.words or not run.said & ENDINGS or run.told and not run.last:
+            raise BadRow("the lines above lack a run, what comes of it, or the last line behind what is told")
+        if len(run.said & {"end", "errors", "last"}) > 1 or {"end", "status"} <= run.said:
+            raise BadRow("the lines above say twice how a run ends")
+        if run.last:
+            usage = run.last == "zkit: usage"
+            run.errors = f"{run.told}\n{run.last}\n" if run.told else SOME if usage else last(run.last)
+        if self.in_case:
+            self.cases[-1].runs.append(run)
+        else:
+            number = int(run.place.partition(":")[2])
+            self.cases += [Case(f"{run.place} {it}", [replace(run, words=[it])]) for it in run.words if number]
+
+    def read_story(self, name: str, words: list[str]) -> bytes:
+        """A story of version 3, or of that in its name, as `a.z5`: code, and behind `@` what stands at an address."""
+        version = re.search(r"\.z(\d)$", name)
+        pieces: list[tuple[int, list[str]]] = [(CODE, [])]
+        for word in words:
+            if word.startswith("@"):
+                pieces.append((int(word[1:], 16), []))
+            else:
+                pieces[-1][1].append(word)
+        return story(int(version[1]) if version else 3, [(at, self.read_bytes(said)) for at, said in pieces])
+
+    def read_bytes(self, words: list[str]) -> bytes:
+        """The bytes that words stand for: hexadecimal ones, texts, names in braces, and code that prints a text."""
+        made: list[bytes] = []
+        rest = iter(words)
+        for word in rest:
+            if word == "times" and made:
+                made.append(made.pop() * int(next(rest, "")))
+            elif word == "print":
+                made += [bytes((0xE5, 0x7F, 13 if it == 10 else it)) for it in unquote(next(rest, ""))]
+            elif word.startswith("{"):
+                made.append(self.named(word[1:-1]))
+            else:
+                made.append(unquote(word) if word.startswith('"') else bytes.fromhex(word))
+        return b"".join(made)
+
+    def named(self, name: str) -> bytes:
+        """What a name in braces stands for: a text, a file, or a file of the examples."""
+        if name.startswith("examples/"):
+            return (EXAMPLES.parent / name).read_bytes()
+        return self.texts[name] if name in self.texts else self.files[name]
+
+    def read_wanted(self, words: list[str]) -> object:
+        """What is wanted of a text: it all, a part of it, or less."""
+        if words in (["anything"], ["something"]):
+            return ANY if words == ["anything"] else SOME
+        if words[:1] == ["has"]:
+            return has(*(text_of(self.read_bytes([it])) for it in words[1:]))
+        if words[:1] == ["begins"]:
+            return begins(text_of(self.read_bytes(words[1:])))
+        return text_of(self.read_bytes(words))
+
+
+class Written(Program):
+    """The program, with cases that stand in a file."""
+
+    def run_book(self, book: Book) -> None:
+        """Runs the cases of a file."""
+        (self.folder / "examples").symlink_to(EXAMPLES)
+        self.known.add("examples")
+        for case in book.cases:
+            self.look_for_files(case)
+        for case in book.cases:
+            self.case(case.name, self.check_runs, case)
+
+    def look_for_files(self, case: Case) -> None:
+        """Ends the script where a run names a file with a dot in its name that is not there, nor named by its case."""
+        named = {name for run in case.runs for name in (*run.before, *run.holds)}
+        for run in case.runs:
+            for word in [it for words in run.words for it in words_of(words)]:
+                name = os.path.normpath(word)
+                if "." in name and word[0] not in '-"' and name not in named and not (self.folder / name).exists():
+                    sys.exit(f"{run.place}: there is no file {word}")
+
+    def check_runs(self, case: Case) -> None:
+        """Runs what stands in a case. No file is left but those that it names, and these hold what was said last."""
+        held: dict[str, object] = {}
+        for run in case.runs:
+            for name in run.folders:
+                (self.folder / name).mkdir(parents=True)
+            for words in run.words:
+                self.write(run.before)
+                held.update({name: text_of(content) for name, content in run.before.items()})
+                wanted = (run.status, run.screen, run.errors)
+                came = self.run([word_bytes(it) for it in words_of(words)], run.typed, run.redirected)
+                same(wanted, came, words)
+                held.update(run.holds)
+                for name, content in held.items():
+                    there = self.read(name)
+                    same(content, there if there is None else text_of(there), f"{words}: {name}")
+                same([], [it for it in self.left() if it not in held], f"{words}: left")
+
+    def left(self) -> list[str]:
+        """The paths of the files in the folder that were not there at first."""
+        paths = [path for it in self.new() for path in (self.folder / it, *(self.folder / it).rglob("*"))]
+        return [str(path.relative_to(self.folder)) for path in paths if not path.is_dir()]
