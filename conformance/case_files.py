@@ -1,6 +1,10 @@
+#!/usr/bin/env python3
 """Reads the files `*.cases`, and runs what stands in them: words of the program, with what has to come of them.
 
-README.md describes their lines. They are run by `program.py` and `sessions.py`.
+usage: conformance/case_files.py FILE FOLDER
+
+writes the stories and other files of a file to a folder. README.md describes the lines. `program.py`, `sessions.py` and
+`failures.py` run what stands in them.
 """
 
 from __future__ import annotations
@@ -8,7 +12,7 @@ from __future__ import annotations
 import os
 import re
 import sys
-from collections.abc import Iterable, Iterator
+from collections.abc import Iterator
 from dataclasses import dataclass, field, replace
 from pathlib import Path
 
@@ -54,13 +58,14 @@ class Case:
     runs: list[Run] = field(default_factory=list)
 
 
-def story(version: int, pieces: Iterable[tuple[int, bytes]]) -> bytes:
-    """A story that has some bytes at their addresses, and else what a header needs."""
-    image = bytearray(CODE)
-    for at, content in ((0, bytes([version])), (4, b"\0@\0@"), (0x0E, b"\0@"), (0x12, b"000000"), *pieces):
-        image.extend(bytes(max(0, at + len(content) - len(image))))
-        image[at:at + len(content)] = content
-    return bytes(image)
+def header(version: int) -> bytes:
+    """The header of a story whose code stands behind it."""
+    return bytes([version, 0, 0, 0, 0, CODE, 0, CODE]) + bytes(7) + bytes([CODE, 0, 0]) + b"000000" + bytes(40)
+
+
+def version_of(name: str) -> int:
+    """The version of a story by the end of its name, as 5 for `a.z5`, or 3."""
+    return int(name[-1]) if re.search(r"\.z\d$", name) else 3
 
 
 def words_of(text: str) -> list[str]:
@@ -120,7 +125,7 @@ class Book:
             if name in self.files or name in self.texts:
                 raise BadRow(f"{name} stands twice")
             into = self.texts if word == "text" else self.files
-            into[name] = self.read_story(name, words) if word == "story" else self.read_bytes(words)
+            into[name] = self.read_bytes(words, header(version_of(name)) if word == "story" else b"")
         elif self.open is None and word == "from":
             name, words = name_and_rest(rest)
             other = Book(self.path.with_name(name))
@@ -183,36 +188,40 @@ class Book:
             number = int(run.place.partition(":")[2])
             self.cases += [Case(f"{run.place} {it}", [replace(run, words=[it])]) for it in run.words if number]
 
-    def read_story(self, name: str, words: list[str]) -> bytes:
-        """A story of version 3, or of that in its name, as `a.z5`: code, and behind `@` what stands at an address."""
-        version = re.search(r"\.z(\d)$", name)
-        pieces: list[tuple[int, list[str]]] = [(CODE, [])]
-        for word in words:
-            if word.startswith("@"):
-                pieces.append((int(word[1:], 16), []))
-            else:
-                pieces[-1][1].append(word)
-        return story(int(version[1]) if version else 3, [(at, self.read_bytes(said)) for at, said in pieces])
+    def read_bytes(self, words: list[str], before: bytes = b"") -> bytes:
+        """The bytes that words stand for: hexadecimal ones, texts, names in braces, and code that prints a text.
 
-    def read_bytes(self, words: list[str]) -> bytes:
-        """The bytes that words stand for: hexadecimal ones, texts, names in braces, and code that prints a text."""
-        made: list[bytes] = []
+        They stand behind others, or where `@` and an address says.
+        """
+        made, said, at = bytearray(before), b"", len(before)
         rest = iter(words)
         for word in rest:
-            if word == "times" and made:
-                made.append(made.pop() * int(next(rest, "")))
+            if word.startswith("@"):
+                at = int(word[1:], 16)
+                continue
+            if word == "less":
+                at = len(made) - int(next(rest, ""))
+                del made[at:]
+                continue
+            if word == "times" and said:
+                said *= int(next(rest, "")) - 1
             elif word == "print":
-                made += [bytes((0xE5, 0x7F, 13 if it == 10 else it)) for it in unquote(next(rest, ""))]
+                said = b"".join(bytes((0xE5, 0x7F, 13 if it == 10 else it)) for it in unquote(next(rest, "")))
             elif word.startswith("{"):
-                made.append(self.named(word[1:-1]))
+                said = self.named(word[1:-1])
             else:
-                made.append(unquote(word) if word.startswith('"') else bytes.fromhex(word))
-        return b"".join(made)
+                said = unquote(word) if word.startswith('"') else bytes.fromhex(word)
+            made.extend(bytes(max(0, at + len(said) - len(made))))
+            made[at:at + len(said)] = said
+            at += len(said)
+        return bytes(made)
 
     def named(self, name: str) -> bytes:
         """What a name in braces stands for: a text, a file, or a file of the examples."""
         if name.startswith("examples/"):
             return (EXAMPLES.parent / name).read_bytes()
+        if name not in self.texts and name not in self.files:
+            raise BadRow(f"there is no {name}")
         return self.texts[name] if name in self.texts else self.files[name]
 
     def read_wanted(self, words: list[str]) -> object:
@@ -269,3 +278,16 @@ class Written(Program):
         """The paths of the files in the folder that were not there at first."""
         paths = [path for it in self.new() for path in (self.folder / it, *(self.folder / it).rglob("*"))]
         return [str(path.relative_to(self.folder)) for path in paths if not path.is_dir()]
+
+
+def main() -> int:
+    """Writes the files that a file has."""
+    if len(sys.argv) != 3:
+        sys.exit(__doc__)
+    for name, content in Book(Path(sys.argv[1])).files.items():
+        Path(sys.argv[2], name).write_bytes(content)
+    return 0
+
+
+if __name__ == "__main__":
+    sys.exit(main())

@@ -77,17 +77,6 @@ class Way(NamedTuple):
     tell: Tell
 
 
-class Options:
-    """What the command line says."""
-
-    v: bool
-    only: list[str] | None
-    first: str
-    jobs: int
-    seconds: int
-    check: bool
-
-
 # Which edits are mutants.
 
 
@@ -596,7 +585,7 @@ def stop(message: str) -> NoReturn:
     end_all(2)
 
 
-def read_words() -> tuple[Options, list[Edit]]:
+def read_words() -> tuple[argparse.Namespace, list[Edit]]:
     """What the command line says, and the edits that it asks for."""
     words = argparse.ArgumentParser(prog="conformance/mutate.py", description=__doc__.split("\n")[0])
     words.add_argument("-v", action="store_true", help="name for each edit what refuses it")
@@ -605,7 +594,7 @@ def read_words() -> tuple[Options, list[Edit]]:
     words.add_argument("--jobs", type=int, default=2, help="how many builds run side by side")
     words.add_argument("--seconds", type=int, default=60, help="how long a run may take")
     words.add_argument("--check", action="store_true", help="try nothing: tell which edits do not apply any more")
-    options = words.parse_args(namespace=Options())
+    options = words.parse_args()
     found = read_edits(options.only or [])
     if not found:
         words.error("no edit has these words")

@@ -38,15 +38,6 @@ VERDICTS = (
 WELL = ("refused", "refused by a limit alone")
 
 
-class Options:
-    """What the command line says."""
-
-    crates: list[str]
-    changed: str | None
-    sample: int | None
-    into: pathlib.Path | None
-
-
 def git(*words: str) -> str:
     """What a command of git prints."""
     return subprocess.run(["git", "-C", str(TOP), *words], check=True, stdout=subprocess.PIPE, text=True).stdout
@@ -134,7 +125,7 @@ def tried(edits: list[Edit]) -> Counter[str]:
     return counts
 
 
-def read_options() -> Options:
+def read_options() -> argparse.Namespace:
     """What the command line says."""
     words = argparse.ArgumentParser(prog="conformance/refuse.py", description=__doc__.split("\n")[0])
     words.add_argument("crates", nargs="*", metavar="CRATE", help="only edits of these crates")
@@ -143,7 +134,7 @@ def read_options() -> Options:
     words.add_argument("--sample", type=int, metavar="N", help="only so many, chosen by the commit")
     into = "try nothing: lay them into the repository there, and print where they lie"
     words.add_argument("--into", type=pathlib.Path, metavar="FOLDER", help=into)
-    return words.parse_args(namespace=Options())
+    return words.parse_args()
 
 
 def main() -> int:

@@ -89,16 +89,6 @@ class Row:
         return words
 
 
-class Options:
-    """What the command line says."""
-
-    v: bool
-    screen_only: bool
-    writable_code: bool
-    only: str
-    command: list[str]
-
-
 class Seen(NamedTuple):
     """What is seen of a play: the screen, the transcript where the row looks at it, and the end in words."""
 
@@ -260,7 +250,7 @@ def tidy(text: str) -> str:
     return STATUS_LINE.sub("", lines).strip("\n")
 
 
-def play(row: Row, version: int, options: Options, folder: str) -> Played:
+def play(row: Row, version: int, options: argparse.Namespace, folder: str) -> Played:
     """Plays a row in a folder of its own, and answers what came of it."""
     with tempfile.TemporaryDirectory(dir=folder) as place:
         path = os.path.join(place, f"{row.place.replace(':', '-')}.z{version}")
@@ -301,7 +291,7 @@ def table(title: str, counts: Counts) -> None:
         print("{:24}  {:5}  {:6}  {:7}  {:4}".format(chapter, *numbers))
 
 
-def read_options() -> Options:
+def read_options() -> argparse.Namespace:
     """What the command line says."""
     words = argparse.ArgumentParser(prog="conformance/run.py", description=__doc__.split("\n")[0])
     words.add_argument("-v", action="store_true", help="name each row that differs")
@@ -311,7 +301,7 @@ def read_options() -> Options:
     words.add_argument("--writable-code", action="store_true", help=writable)
     words.add_argument("--only", default="", help="play only rows whose name or file has these words")
     words.add_argument("command", nargs=argparse.REMAINDER, metavar="COMMAND", help="the interpreter")
-    options = words.parse_args(namespace=Options())
+    options = words.parse_args()
     if not options.command:
         words.error("the interpreter's command is missing")
     if not shutil.which(options.command[0]):
@@ -319,7 +309,7 @@ def read_options() -> Options:
     return options
 
 
-def play_all(rows: list[tuple[str, Row]], options: Options) -> tuple[Counts, Counts]:
+def play_all(rows: list[tuple[str, Row]], options: argparse.Namespace) -> tuple[Counts, Counts]:
     """Plays rows, each with its chapter, names those that differ where that is asked for, and counts them.
 
     Those by the Standard are counted apart from those on choices.

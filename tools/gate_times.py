@@ -20,7 +20,7 @@ import shutil
 import subprocess
 import sys
 import tempfile
-from typing import NamedTuple, Protocol, cast
+from typing import Any, NamedTuple
 
 TOP = pathlib.Path(__file__).resolve().parent.parent
 sys.dont_write_bytecode = True
@@ -33,32 +33,6 @@ BEGIN, END = "<!-- the table of tools/gate_times.py begins -->\n", "<!-- the tab
 DEAREST = 3
 
 
-class Options:
-    """What the command line says."""
-
-    write: bool
-    jobs: int
-
-
-class Crate(Protocol):
-    """A crate, as the toolchain's module has it."""
-
-    name: str
-    folder: str
-    is_program: bool
-
-    def below(self) -> list[Crate]: ...
-    def words(self, flags: list[str], *, keeps: bool) -> list[str]: ...
-
-
-class Toolchain(Protocol):
-    """The toolchain's own module, which knows how it calls the prover."""
-
-    RATTLE: str
-
-    def crates_below(self, top: str) -> list[Crate]: ...
-
-
 class Measured(NamedTuple):
     """A crate's row, and the seconds of a processor that it took."""
 
@@ -66,13 +40,13 @@ class Measured(NamedTuple):
     seconds: float
 
 
-def toolchain() -> Toolchain:
-    """The module, which stands beside the command `rt`."""
+def toolchain() -> Any:
+    """The toolchain's own module, which knows how it calls the prover and stands beside the command `rt`."""
     command = shutil.which("rt")
     if not command:
         sys.exit("tools/gate_times.py: there is no command rt")
     sys.path.append(str(pathlib.Path(command).resolve().parent))
-    return cast(Toolchain, importlib.import_module("rtlib"))
+    return importlib.import_module("rtlib")
 
 
 def dearest(kept: pathlib.Path) -> list[tuple[str, float]]:
@@ -91,7 +65,7 @@ def dearest(kept: pathlib.Path) -> list[tuple[str, float]]:
     return sorted(seconds.items(), key=lambda it: it[1], reverse=True)[:DEAREST]
 
 
-def measure(rtlib: Toolchain, crate: Crate) -> Measured:
+def measure(rtlib: Any, crate: Any) -> Measured:
     """Checks a crate over nothing, and then builds it for those above."""
     kept = pathlib.Path(crate.folder) / "out/incremental"
     kept.mkdir(parents=True)
@@ -111,11 +85,11 @@ def measure(rtlib: Toolchain, crate: Crate) -> Measured:
     return Measured(f"| `{crate.name}` | {functions} | {round(seconds)} | {told} |", seconds)
 
 
-def measure_all(rtlib: Toolchain, crates: list[Crate], jobs: int) -> list[Measured]:
+def measure_all(rtlib: Any, crates: list[Any], jobs: int) -> list[Measured]:
     """Checks all crates, which come behind those below them, as many side by side as jobs."""
     rows: dict[str, concurrent.futures.Future[Measured]] = {}
 
-    def work(crate: Crate) -> Measured:
+    def work(crate: Any) -> Measured:
         concurrent.futures.wait([rows[it.name] for it in crate.below()])
         row = measure(rtlib, crate)
         print(row.row, file=sys.stderr, flush=True)
@@ -139,7 +113,7 @@ def main() -> None:
     words = argparse.ArgumentParser(prog="tools/gate_times.py", description=__doc__.split("\n")[0])
     words.add_argument("--write", action="store_true", help="write the table into docs/PROVING.md")
     words.add_argument("--jobs", type=int, default=1, help="how many crates are checked side by side")
-    options = words.parse_args(namespace=Options())
+    options = words.parse_args()
     rtlib = toolchain()
     with tempfile.TemporaryDirectory(prefix="gate-times-") as name:
         sources.copy_of(pathlib.Path(name))
