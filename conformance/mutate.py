@@ -43,21 +43,8 @@ SHORTER = (("zk_fast/src/cache.rt", "SLOTS: usize = 8_192", "SLOTS: usize = 512"
 LONGER = 5
 NO_ANSWER = "no answer"
 
-TURNING = """// Which mutant is on.
-
-unsafe extern "C" {
-    pub safe fn turn_to(number: u32);
-    pub safe fn turned() -> u32;
-}
-"""
 # What a test asks of the runtime. Outside of tests the runtime has `Abort` in the program's `main` alone.
 TEST_RUNTIME = "impl std::process::Abort + AllocGlobal + Copy"
-
-TURNING_C = """static unsigned number;
-void turn_to(unsigned wanted) { number = wanted; }
-unsigned turned(void) { return number; }
-"""
-
 
 # What refuses each edit that was tried, by its number, and None where nothing does.
 Outcomes = dict[int, Optional[str]]
@@ -281,10 +268,10 @@ def write_copy(folder: pathlib.Path, edits: list[Edit]) -> None:
     lines.append(f"player: turning anyhow {' '.join(uses)}")
     (folder / "crates.txt").write_text("\n".join(lines) + "\n", encoding="utf-8")
     (folder / ".git").mkdir()
-    for name, text in (("turning/src/lib.rt", TURNING), ("turning/c/turning.c", TURNING_C)):
+    for kept, name in (("turning.rt.in", "turning/src/lib.rt"), ("turning.c", "turning/c/turning.c")):
         path = folder / "crates" / name
         path.parent.mkdir(parents=True)
-        path.write_text(text, encoding="utf-8")
+        shutil.copy(FOLDER / kept, path)
     test.add_tests(folder / "crates")
     test.shorten(folder / "crates", SHORTER)
     program = folder / "crates/zkit/src/main.rt"
@@ -321,20 +308,7 @@ def tests_of(folder: pathlib.Path, crates: Iterable[str], changed: set[str]) -> 
         for name, gives in re.findall(heads, texts[path], re.M):
             calls += f'    eprintln!(rt; "test {crate} {name}")?;\n'
             calls += f"    {crate}::{path.stem}::{name}(rt){'?' if gives else ''};\n"
-    return f"""use std::process::{{ExitCode, Termination}};
-use std::io::Eprint;
-use std::test::Fail;
-
-fn run(rt: {TEST_RUNTIME} + Eprint) -> Result<(), Fail> {{
-{calls}    eprintln!(rt; "tests passed")?;
-    Ok(())
-}}
-
-pub fn pass(rt: {TEST_RUNTIME} + Eprint) -> bool {{
-    let code = run(rt).report(&rt);
-    code == ExitCode::SUCCESS
-}}
-"""
+    return (FOLDER / "player_tests.rt.in").read_text(encoding="utf-8").replace("    // the tests\n", calls)
 
 
 class Copy:

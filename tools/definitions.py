@@ -40,6 +40,7 @@ from edits import Edit, must_fail, refused  # noqa: E402: these stand in the fol
 from sources import blocks_of, crates, functions_of  # noqa: E402
 
 PAGE = TOP / "docs" / "DEFINITIONS.md"
+TEMPLATE = TOP / "tools" / "definitions.md.in"
 
 CHAPTERS = {
     1: "The memory map",
@@ -67,47 +68,6 @@ FILES = 3  # and how many files with its rows
 WIDTH = min(max(shutil.get_terminal_size((100, 24)).columns, 60), 100)  # of what a query prints
 FEW = 2  # of so many definitions a query prints all that carries and guards them, of more what a line holds
 MOST_ROWS = 40  # of those that only use an opcode; more are counted by file
-
-HEAD = """\
-# Definitions
-
-What zkit has on each section of the Z-Machine Standards Document 1.1, and of Quetzal 1.4: the definitions that its
-contracts cite, their examples, and rows of conformance. `tools/definitions.py` wrote this page from `crates/*/specs`,
-`crates/*/src` and `conformance/*.rows`: change those, run it, and leave the page alone. It also prints the rest:
-
-```
-tools/definitions.py 12.4          what there is on a section, with those inside it; 12 is a chapter
-tools/definitions.py print_paddr   on an opcode
-tools/definitions.py dictionary    on a word of a definition's name or meaning
-```
-
-Of each definition it prints the kind, the meaning, the file and the line, the public functions that carry it, the
-examples that cite it and the must-fail edits of functions whose contracts cite it; of each row its name and file.
-
-There are {all} definitions, of four kinds; {bare} of them name no section, and neither does their file.
-
-- **believed** ({believed}): a contract of a public function cites it, directly or through other definitions. Whoever
-  reads the promises has to believe that it says what the Standard says.
-- **law** ({law}): a proposition that a public function proves, of the believed ones.
-- **example** ({example}): a law of values that were worked out by hand, in a file of `specs` whose name ends with
-  `Examples`. It refuses a believed definition that is turned together with its body. What the examples work on is
-  none of these definitions.
-- **helper** ({helper}): the code's own. Contracts of private functions, the views and invariants of types, or proofs
-  alone cite it.
-
-The line of a chapter or section counts all that is inside it, and the examples apart from the other definitions. Each
-of these and each row counts in every section that it names; a definition that names none counts in those of its file.
-The main ones are believed: first those that name the section themselves, and of these those that the most public
-functions carry. Those of a chapter name it as a whole. `Map` of `zk_mem` is the file `crates/zk_mem/specs/Map.antt`,
-and `01-memory` is `conformance/01-memory.rows`; the files with the most rows come first.
-"""
-
-BARE_HEAD = """\
-## Sections without a row
-
-The sections with believed definitions that no row of conformance names, neither them nor a section inside them:
-"""
-
 
 # What tells definitions apart: a crate, a spec file of it, and a name.
 Key = tuple[str, str, str]
@@ -881,8 +841,8 @@ def page(book: Book) -> str:
     bare = sum(not definition.sections for definition in book.definitions)
     titles = ["Section", "Definitions", "Main ones", "Examples", "Rows", "Files"]
     lines = [table_line(standard, numbers, book) for standard, numbers in places(book)]
-    parts = [HEAD.format(all=len(book.definitions), bare=bare, **kinds), table(titles, lines), BARE_HEAD]
-    return "\n".join(parts + bare_lines(book)) + "\n"
+    parts = {"table": table(titles, lines), "sections": "\n".join(bare_lines(book))}
+    return TEMPLATE.read_text("utf-8").format(all=len(book.definitions), bare=bare, **kinds, **parts)
 
 
 # ---- the script
