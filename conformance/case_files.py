@@ -26,8 +26,11 @@ QUOTED = r'"(?:[^"\\]|\\.)*"'
 WORD = rf"{QUOTED}|\{{[^{{}}]*\}}|[^\s\"{{}}]+"
 WORDS = re.compile(rf"(?:\s*(?:{WORD})(?!\S))*\s*")
 NAMED = re.compile(rf"({QUOTED}|[^\s\":]+):(?:\s+(.*))?")
-# Words of lines that may stand more than once for a run, and those of which one has to.
-OFTEN = {"run", "write", "folder", "holds"}
+REDIRECTION = re.compile(r"[0-2]?[<>](&-|/dev/\w+)")
+# The words of lines that stand before what comes of a run, those that may stand more than once, and those of which one
+# has to.
+BEFORE = {"write", "folder", "run"}
+OFTEN = {*BEFORE, "holds"}
 ENDINGS = {"end", "status", "screen", "errors", "last", "told", "holds"}
 
 
@@ -103,16 +106,18 @@ class Book:
                 self.take(line, f"{path.name}:{number}")
             except (BadRow, ValueError, KeyError, OSError) as error:
                 sys.exit(f"{path.name}:{number}: {error}")
+        if empty := next((it.name for it in self.cases if not it.runs), None):
+            sys.exit(f"{path.name}: nothing is run: case {empty}")
 
     def lines(self) -> Iterator[tuple[int, str]]:
         """The lines that are no comments, each with those behind it that begin with a space, and an empty one."""
         number, whole = 0, ""
         for at, line in enumerate([*self.path.read_text(encoding="utf-8").split("\n"), ""], 1):
-            if line.startswith(" ") and whole:
-                whole += line
+            if line.startswith(" ") and line.strip() and whole:
+                whole += line.rstrip()
             elif not line.startswith("#"):
                 yield number, whole
-                number, whole = at, line
+                number, whole = at, line.rstrip()
         yield number, whole
 
     def take(self, line: str, place: str) -> None:
@@ -140,30 +145,28 @@ class Book:
 
     def take_of_run(self, run: Run, word: str, rest: str) -> None:
         """Takes a line on a run."""
-        if word in run.said - OFTEN:
-            raise BadRow(f"{word} stands twice")
+        if word in run.said - OFTEN or word in BEFORE and run.said - BEFORE:
+            raise BadRow(f"{word} stands twice, or behind what comes of a run that no empty line ends")
         run.said.add(word)
+        name, words = name_and_rest(rest) if word in ("write", "holds") else ("", words_of(rest))
         if word == "run":
-            words_of(rest)
             run.words.append(rest)
         elif word == "write":
-            name, words = name_and_rest(rest)
             run.before[name] = self.read_bytes(words)
         elif word == "folder":
             run.folders.append(rest)
         elif word == "holds":
-            name, words = name_and_rest(rest)
             run.holds[name] = None if words == ["nothing"] else self.read_wanted(words)
         elif word == "input":
-            run.typed = self.read_bytes(words_of(rest))
-        elif word == "redirect":
+            run.typed = self.read_bytes(words)
+        elif word == "redirect" and all(REDIRECTION.fullmatch(it) for it in words):
             run.redirected = rest
         elif word == "status":
             run.status = ANY if rest == "anything" else int(rest)
         elif word in ("screen", "errors"):
-            setattr(run, word, self.read_wanted(words_of(rest)))
+            setattr(run, word, self.read_wanted(words))
         elif word in ("last", "told"):
-            setattr(run, word, text_of(self.read_bytes(words_of(rest))))
+            setattr(run, word, text_of(self.read_bytes(words)))
         elif word == "end" and END.fullmatch(rest):
             run.status = STATUS[rest.split()[0]]
             run.last = f"zkit: {rest}" if run.status else ""
@@ -185,8 +188,7 @@ class Book:
         if self.in_case:
             self.cases[-1].runs.append(run)
         else:
-            number = int(run.place.partition(":")[2])
-            self.cases += [Case(f"{run.place} {it}", [replace(run, words=[it])]) for it in run.words if number]
+            self.cases += [Case(f"{run.place} {it}", [replace(run, words=[it])]) for it in run.words]
 
     def read_bytes(self, words: list[str], before: bytes = b"") -> bytes:
         """The bytes that words stand for: hexadecimal ones, texts, names in braces, and code that prints a text.
@@ -226,6 +228,8 @@ class Book:
 
     def read_wanted(self, words: list[str]) -> object:
         """What is wanted of a text: it all, a part of it, or less."""
+        if not words or words in (["has"], ["begins"]):
+            raise BadRow("a text is needed")
         if words in (["anything"], ["something"]):
             return ANY if words == ["anything"] else SOME
         if words[:1] == ["has"]:
