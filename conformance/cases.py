@@ -7,10 +7,12 @@ from __future__ import annotations
 
 import itertools
 import os
+import select
 import shutil
 import subprocess
 import sys
 import tempfile
+import time
 from collections.abc import Callable, Mapping, Sequence
 from pathlib import Path
 from typing import Any, Union
@@ -97,6 +99,23 @@ def same(wanted: object, came: object, of: str = "") -> None:
 def text_of(content: bytes | None) -> str:
     """Bytes as a text of which none is lost."""
     return (content or b"").decode("utf-8", "surrogateescape")
+
+
+def shown_up_to(stream: int, text: str | None) -> str:
+    """What a terminal or a pipe shows up to a text, or to its end."""
+    came = b""
+    end = time.monotonic() + SECONDS
+    while time.monotonic() < end and (text is None or text.encode() not in came):
+        if not select.select([stream], [], [], 1)[0]:
+            continue
+        try:
+            more = os.read(stream, 4096)
+        except OSError:
+            break
+        if not more:
+            break
+        came += more
+    return text_of(came)
 
 
 class Program:

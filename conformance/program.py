@@ -14,18 +14,16 @@ import fcntl
 import os
 import re
 import resource
-import select
 import subprocess
 import sys
 from collections.abc import Iterable
 from pathlib import Path
-from typing import IO, Optional
 
 from case_files import Book, Written
-from cases import ANY, SECONDS, Differs, compiler, ends, preloaded, run_cases, same, shown, takes_preloaded
+from cases import ANY, Differs, compiler, ends, preloaded, run_cases, same, shown, shown_up_to, takes_preloaded
 
-# What a story shows before each read, with the line that is typed, if one is.
-Turns = Iterable[tuple[bytes, Optional[bytes]]]
+# What a story shows before each read, with the line that is typed, "" for none.
+Turns = Iterable[tuple[str, str]]
 
 # What the file is called that a saved game is written in.
 BESIDE = re.compile(r"\.zkit-[0-9a-f]{16}")
@@ -48,17 +46,6 @@ def rights_of(path: Path) -> tuple[int, int, int]:
 def without_room() -> None:
     """Lets the program write files of 10 bytes at most, as on a device that is full."""
     resource.setrlimit(resource.RLIMIT_FSIZE, (10, 10))
-
-
-def shown_next(stream: IO[bytes], length: int) -> bytes:
-    """The next bytes that a program shows, fewer where it ends or takes too long."""
-    came = b""
-    while len(came) < length and select.select([stream], [], [], SECONDS)[0]:
-        more = os.read(stream.fileno(), length - len(came))
-        if not more:
-            break
-        came += more
-    return came
 
 
 class Cases(Written):
@@ -224,22 +211,17 @@ class Cases(Written):
 
     def check_prompt(self, words: str, turns: Turns) -> None:
         """What a story shows before a read is on the screen before the line is typed: a turn has that and the line."""
+        command, pipe = [*self.command, *words.split(), "reads.z5"], subprocess.PIPE
         with subprocess.Popen(
-            [*self.command, *words.split(), "reads.z5"],
-            cwd=self.folder,
-            stdin=subprocess.PIPE,
-            stdout=subprocess.PIPE,
-            stderr=subprocess.DEVNULL,
+            command, cwd=self.folder, stdin=pipe, stdout=pipe, stderr=subprocess.DEVNULL, bufsize=0
         ) as playing:
             assert playing.stdin and playing.stdout
             for wanted, line in turns:
-                came = shown_next(playing.stdout, len(wanted))
+                came = shown_up_to(playing.stdout.fileno(), wanted)
                 if came != wanted:
                     playing.kill()
                 same(wanted, came, f"before {line!r}")
-                if line:
-                    playing.stdin.write(line)
-                    playing.stdin.flush()
+                playing.stdin.write(line.encode())
 
     def run_screens(self) -> None:
         """Runs the cases of a pipe that nobody reads, and of screens that wait."""
@@ -247,9 +229,9 @@ class Cases(Written):
         for words in ("play lines.z3", "play --steps 1000000000 endless.z3", "disasm lines.z3"):
             name = words.replace("--steps 1000000000 ", "")
             self.case(f"{name} into a closed pipe", self.check_closed_pipe, words)
-        plain: Turns = ((b">", b"go\n"), (b"g>", b"up\n"), (b"u", None))
+        plain: Turns = ((">", "go\n"), ("g>", "up\n"), ("u", ""))
         self.case("play reads.z5, line by line", self.check_prompt, "play", plain)
-        echoed: Turns = ((b">", b"go\n"), (b"go\ng>", b"up\n"), (b"up\nu", None))
+        echoed: Turns = ((">", "go\n"), ("go\ng>", "up\n"), ("up\nu", ""))
         self.case("play --echo reads.z5, line by line", self.check_prompt, "play --echo", echoed)
 
     def run_all(self) -> None:

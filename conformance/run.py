@@ -1,9 +1,11 @@
 #!/usr/bin/env python3
 """Plays the rows of this folder with an interpreter, and tells which of them agree.
 
-usage: conformance/run.py [-v] [--screen-only] [--only WORDS] COMMAND...
+usage: conformance/run.py [-v] [--screen-only] [--writable-code] [--only WORDS] COMMAND...
+       conformance/run.py --write FOLDER
 
-Each row is played by `COMMAND STORY`, for each of its versions. README.md describes the rows.
+Each row is played by `COMMAND STORY`, for each of its versions. --write plays nothing: it writes the stories and inputs
+of all rows, and a list of these plays with what is wanted of them, rows.json. README.md describes the rows.
 """
 
 from __future__ import annotations
@@ -11,6 +13,7 @@ from __future__ import annotations
 import argparse
 import collections
 import concurrent.futures
+import json
 import os
 import pathlib
 import re
@@ -244,6 +247,27 @@ def story(row: Row, version: int, writable_code: bool = False) -> bytes:
     return bytes(image)
 
 
+def write(row: Row, version: int, writable: bool, number: int, folder: pathlib.Path) -> dict[str, object]:
+    """Writes the files of a play, and answers what rows.json has of it: its files and options, and what is wanted."""
+    made, lines = f"row-{number}.story", f"row-{number}.input"
+    (folder / made).write_bytes(story(row, version, writable))
+    (folder / lines).write_bytes(row.input)
+    name = f"{row.place} {row.name} (version {version}{', writable code' if writable else ''})"
+    options: dict[str, object] = {"upper": row.upper}
+    if row.undo is not None:
+        options["undo"] = row.undo
+    status, line = row.ended()
+    wanted = {"screen": row.screen, "script": row.script, "status": status, "line": line}
+    return {"name": name, "story": made, "input": lines, "save": row.save, "options": options, **wanted}
+
+
+def write_all(folder: pathlib.Path) -> None:
+    """Writes the plays of all rows in both of their ways, so that one process can play them all."""
+    ways = [(row, it, writable) for _, row in all_rows() for it in row.versions for writable in (False, True)]
+    plays = [write(*way, number, folder) for number, way in enumerate(ways)]
+    (folder / "rows.json").write_text(json.dumps(plays), encoding="utf-8")
+
+
 def tidy(text: str) -> str:
     """A screen without what terminals add: spaces at a line's end, empty lines at both ends, status lines."""
     lines = "\n".join(line.rstrip() for line in text.split("\n"))
@@ -300,8 +324,11 @@ def read_options() -> argparse.Namespace:
     writable = "raise the static base to the story's end, in rows that do not name it"
     words.add_argument("--writable-code", action="store_true", help=writable)
     words.add_argument("--only", default="", help="play only rows whose name or file has these words")
+    words.add_argument("--write", type=pathlib.Path, metavar="FOLDER", help="play nothing: write the rows as files")
     words.add_argument("command", nargs=argparse.REMAINDER, metavar="COMMAND", help="the interpreter")
     options = words.parse_args()
+    if options.write:
+        return options
     if not options.command:
         words.error("the interpreter's command is missing")
     if not shutil.which(options.command[0]):
@@ -334,6 +361,9 @@ def play_all(rows: list[tuple[str, Row]], options: argparse.Namespace) -> tuple[
 def main() -> None:
     """Plays the rows that are asked for, and tells how many agree."""
     options = read_options()
+    if options.write:
+        write_all(options.write)
+        sys.exit(0)
     named = [(chapter, row) for chapter, row in all_rows() if options.only in f"{chapter} {row.name}"]
     plain_ones = [(chapter, row) for chapter, row in named if row.end == "quit" and not row.options("")]
     chosen = plain_ones if options.screen_only else named

@@ -13,37 +13,18 @@ import json
 import os
 import pty
 import re
-import select
 import shlex
 import sys
-import time
 from collections.abc import Iterable
 from pathlib import Path
-from typing import Any, Optional
+from typing import Any
 
 from case_files import Book, Written
-from cases import ANY, SECONDS, begins, has, run_cases, same, shown, text_of
+from cases import ANY, begins, has, run_cases, same, shown, shown_up_to, text_of
 
 BOOK = Book(Path(__file__).with_name("sessions.cases"))
 FILES = BOOK.files
 FOUND = {"finding": "C5", "address": "000c7", "object": 2, "words": "object links"}  # in links.z3
-
-
-def read_up_to(terminal: int, text: Optional[str]) -> str:
-    """What a terminal shows up to a text, or to its end."""
-    came = b""
-    end = time.monotonic() + SECONDS
-    while time.monotonic() < end and (text is None or text.encode() not in came):
-        if not select.select([terminal], [], [], 1)[0]:
-            continue
-        try:
-            more = os.read(terminal, 4096)
-        except OSError:
-            break
-        if not more:
-            break
-        came += more
-    return text_of(came)
 
 
 class Asked(Written):
@@ -64,9 +45,9 @@ class Asked(Written):
             os.execve("/bin/sh", ["sh", "-c", line], {**os.environ, **variables})
         came = ""
         for text, line in turns:
-            came += read_up_to(terminal, text)
+            came += shown_up_to(terminal, text)
             os.write(terminal, line.encode() + b"\n")
-        came += read_up_to(terminal, None)
+        came += shown_up_to(terminal, None)
         os.close(terminal)
         os.waitpid(pid, 0)
         return came.replace("\r\n", "\n")
