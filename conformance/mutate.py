@@ -421,15 +421,9 @@ def begin(copy: pathlib.Path, folder: pathlib.Path, shown: IO[bytes], way: Way) 
     words = ["rt", "try", "--steps", "1", "--seconds", str(way.seconds), "--cases", str(folder / "cases")]
     for name in ("rows", "slow"):
         words += ["--data", f"{name}={folder.parent / name}"]
-    program = subprocess.Popen(
-        words,
-        cwd=copy / "crates/player",
-        stdin=subprocess.DEVNULL,
-        stdout=shown,
-        stderr=subprocess.PIPE,
-        env={**os.environ, "RT_ALLOW_C": "1"},
-        errors="replace",
-    )
+    place, env = copy / "crates/player", {**os.environ, "RT_ALLOW_C": "1"}
+    nothing, pipe = subprocess.DEVNULL, subprocess.PIPE
+    program = subprocess.Popen(words, cwd=place, env=env, stdin=nothing, stdout=shown, stderr=pipe, errors="replace")
     RUNNING.append(program)
     return program
 

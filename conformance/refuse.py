@@ -22,7 +22,7 @@ from collections import Counter
 from collections.abc import Iterable
 
 from edits import Edit, must_fail, refused, why_not
-from sources import TOP, copy_of, crates
+from sources import TOP, begin_rt, copy_of, crates
 
 # The parts of a crate that its proof reads.
 PARTS = ("src", "specs", "proofs")
@@ -108,15 +108,7 @@ def tried(edits: list[Edit]) -> Counter[str]:
     with tempfile.TemporaryDirectory(prefix="refuse-") as folder:
         copy_of(pathlib.Path(folder))
         lay(edits, pathlib.Path(folder))
-        with subprocess.Popen(
-            ["rt", "must-fail", *sorted({it.crate for it in edits})],
-            cwd=folder,
-            stdin=subprocess.DEVNULL,
-            stdout=subprocess.PIPE,
-            stderr=subprocess.STDOUT,
-            text=True,
-            errors="replace",
-        ) as ran:
+        with begin_rt(["must-fail", *sorted({it.crate for it in edits})], pathlib.Path(folder)) as ran:
             for line in ran.stdout or ():
                 verdict = next((name for words, name in VERDICTS if words in line), None)
                 if verdict:

@@ -9,6 +9,7 @@ import functools
 import pathlib
 import re
 import shutil
+import subprocess
 from collections.abc import Iterable, Iterator
 from typing import NamedTuple
 
@@ -40,6 +41,15 @@ def copy_of(folder: pathlib.Path) -> None:
     for name in ("crates.txt", "HANDLES"):
         shutil.copyfile(TOP / name, folder / name)
     (folder / ".git").mkdir()
+
+
+def begin_rt(words: list[str], folder: pathlib.Path) -> subprocess.Popen[str]:
+    """Begins a command of `rt` in a folder. All that it says is one text."""
+    pipe, both = subprocess.PIPE, subprocess.STDOUT
+    command = ["rt", *words]
+    return subprocess.Popen(
+        command, cwd=folder, stdin=subprocess.DEVNULL, stdout=pipe, stderr=both, text=True, errors="replace"
+    )
 
 
 class Block(NamedTuple):
