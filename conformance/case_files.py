@@ -29,7 +29,7 @@ NAMED = re.compile(rf"({QUOTED}|[^\s\":]+):(?:\s+(.*))?")
 REDIRECTION = re.compile(r"[0-2]?[<>](&-|/dev/\w+)")
 # The words of lines that stand before what comes of a run, those that may stand more than once, and those of which one
 # has to.
-BEFORE = {"write", "folder", "run"}
+BEFORE = {"write", "link", "folder", "run"}
 OFTEN = {*BEFORE, "holds"}
 ENDINGS = {"end", "status", "screen", "errors", "last", "told", "holds"}
 
@@ -42,6 +42,7 @@ class Run:
     words: list[str] = field(default_factory=list)  # those of each run, as they are written
     said: set[str] = field(default_factory=set)  # the first words of its lines
     before: dict[str, bytes] = field(default_factory=dict)  # files that are written before it
+    links: dict[str, str] = field(default_factory=dict)  # and links with what they lead to
     folders: list[str] = field(default_factory=list)  # and folders that are made
     typed: bytes = b""
     redirected: str = ""  # as by a shell
@@ -148,11 +149,13 @@ class Book:
         if word in run.said - OFTEN or word in BEFORE and run.said - BEFORE:
             raise BadRow(f"{word} stands twice, or behind what comes of a run that no empty line ends")
         run.said.add(word)
-        name, words = name_and_rest(rest) if word in ("write", "holds") else ("", words_of(rest))
+        name, words = name_and_rest(rest) if word in ("write", "link", "holds") else ("", words_of(rest))
         if word == "run":
             run.words.append(rest)
         elif word == "write":
             run.before[name] = self.read_bytes(words)
+        elif word == "link":
+            run.links[name] = " ".join(words)
         elif word == "folder":
             run.folders.append(rest)
         elif word == "holds":
@@ -253,7 +256,7 @@ class Written(Program):
 
     def look_for_files(self, case: Case) -> None:
         """Ends the script where a run names a file with a dot in its name that is not there, nor named by its case."""
-        named = {name for run in case.runs for name in (*run.before, *run.holds)}
+        named = {name for run in case.runs for name in (*run.before, *run.links, *run.holds)}
         for run in case.runs:
             for word in [it for words in run.words for it in words_of(words)]:
                 name = os.path.normpath(word)
@@ -266,6 +269,8 @@ class Written(Program):
         for run in case.runs:
             for name in run.folders:
                 (self.folder / name).mkdir(parents=True)
+            for name, target in run.links.items():
+                (self.folder / name).symlink_to(target)
             for words in run.words:
                 self.write(run.before)
                 held.update({name: text_of(content) for name, content in run.before.items()})

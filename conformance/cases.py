@@ -71,11 +71,6 @@ def shown(text: object) -> Wanted:
     return 0, text, ""
 
 
-def ends(status: int, line: str, text: object = "") -> Wanted:
-    """What comes of a run that shows a text and ends with a status and a last line on standard error."""
-    return status, text, last(line)
-
-
 def unlike(wanted: object, came: object) -> str:
     """What differs, in words: of what is long the parts and the line that do."""
     whole = f"wanted {wanted!r}, came {came!r}"

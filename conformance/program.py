@@ -20,7 +20,7 @@ from collections.abc import Iterable
 from pathlib import Path
 
 from case_files import Book, Written
-from cases import ANY, Differs, compiler, ends, preloaded, run_cases, same, shown, shown_up_to, takes_preloaded
+from cases import ANY, Differs, compiler, last, preloaded, run_cases, same, shown, shown_up_to, takes_preloaded
 
 # What a story shows before each read, with the line that is typed, "" for none.
 Turns = Iterable[tuple[str, str]]
@@ -70,18 +70,6 @@ class Cases(Written):
         wanted, play = (0, "\n\n\n", ANY), "play --save kept saves.z3"
         self.check(wanted, play, preexec_fn=without_room, restore_signals=False)
         same((OLD, ["kept"]), (self.read("kept"), self.new()))
-
-    def check_link(self) -> None:
-        """A save replaces the file behind a link, which stays."""
-        self.write({"behind": OLD})
-        self.check_link_to_nothing()
-
-    def check_link_to_nothing(self) -> None:
-        """A save makes the file that a link names."""
-        kept = self.folder / "kept"
-        kept.symlink_to("behind")
-        self.save()
-        same((True, GAME), (kept.is_symlink(), self.read("behind")))
 
     def check_mode(self) -> None:
         """A new game may be read by those who could read the old one."""
@@ -183,8 +171,6 @@ class Cases(Written):
         """Runs the cases of a file for the saved game that is there, or can't be written."""
         self.case("play --save kept saves.z3, without room for it", self.check_full)
         for what, check in (
-            ("where kept is a link", self.check_link),
-            ("where kept is a link to nothing", self.check_link_to_nothing),
             ("where kept is its owner's alone", self.check_mode),
             ("where another name leads to kept", self.check_hard_link),
             ("killed while it writes", self.check_killed),
@@ -207,7 +193,7 @@ class Cases(Written):
         reader, writer = os.pipe()
         os.close(reader)
         with open(writer, "wb") as pipe:
-            self.check(ends(4, "zkit: write failed"), words, stdout=pipe)
+            self.check((4, "", last("zkit: write failed")), words, stdout=pipe)
 
     def check_prompt(self, words: str, turns: Turns) -> None:
         """What a story shows before a read is on the screen before the line is typed: a turn has that and the line."""

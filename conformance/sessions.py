@@ -122,40 +122,7 @@ class Sessions(Asked):
         same(self.read("in_line"), self.read("aside"))
         same("azkit: save to which file [in_line.qzl]? aside\n\n| hi\nbx\nc", asked)
 
-    def boxes_show_the_status_line(self) -> None:
-        """In version 3 the status line stands above each prompt."""
-        _, plain, _ = self.run("play lighthouse.z3", b"inventory\n")
-        first, second = plain.split(">")[:2]
-        wanted = f"{first}[Jetty] 0/0\n>{second}[Jetty] 0/1\n>"
-        self.check(shown(wanted), "play --boxes lighthouse.z3", b"inventory\n")
-
-    # ---- a test suite
-
-    def wrong_texts_fail(self) -> None:
-        """A transcript that differs in a line, with lines around it."""
-        self.write({"wrong/a.walkthrough": "# story: ../lighthouse.z5\ninventory\n"})
-        self.run("test --bless wrong")
-        text = text_of(self.read("wrong/a.transcript"))
-        self.write({"wrong/a.transcript": text.replace("a postbag", "an apple")})
-        reason = "FAILED wrong/a.walkthrough: output differs from line"
-        self.check((1, has(reason, "an apple", "a postbag", "0 passed, 1 failed"), ""), "test wrong")
-
     # ---- an archive
-
-    def folders_are_looked_through(self) -> None:
-        """Files in folders by the bytes of their names, each folder's where its name stands."""
-        hello, text = FILES["hello.z3"], "no story, but a text of some length\n" * 3
-        self.write({"archive/b.z3": FILES["verifies_right.z3"], "archive/B.z3": hello})
-        self.write({"archive/a/c.z3": hello, "archive/a/b/x.txt": text})
-        os.symlink("..", self.folder / "archive/up")
-        wanted = (
-            "archive/B.z3:\nC1 0001c checksum\narchive/a/b/x.txt: refused 2\n"
-            "archive/a/c.z3:\nC1 0001c checksum\narchive/b.z3:\n"
-        )
-        self.check((6, wanted, ANY), "check --recursive archive")
-        os.unlink(self.folder / "archive/up")
-        status, listed, _ = self.run("info --ifid --recursive archive/")
-        same((1, 3), (status, listed.count("[ifid]\n")))
 
     def facts_in_json(self) -> None:
         """An object for each story, on a line, with the same facts."""

@@ -42,23 +42,7 @@ from sources import blocks_of, crates, functions_of  # noqa: E402
 PAGE = TOP / "docs" / "DEFINITIONS.md"
 TEMPLATE = TOP / "tools" / "definitions.md.in"
 
-CHAPTERS = {
-    1: "The memory map",
-    2: "Numbers and arithmetic",
-    3: "How text and characters are encoded",
-    4: "How instructions are encoded",
-    5: "How routines are encoded",
-    6: "The game state",
-    7: "Output streams and file handling",
-    8: "The screen model",
-    9: "Sound effects",
-    10: "Input streams and devices",
-    11: "The format of the header",
-    12: "The object table",
-    13: "The dictionary and lexical analysis",
-    14: "Complete table of opcodes",
-    15: "Dictionary of opcodes",
-}
+CHAPTERS = dict(it.split(" ", 1) for it in (TOP / "tools" / "chapters.txt").read_text("utf-8").splitlines())
 
 KINDS = ("believed", "law", "example", "helper")
 EXAMPLES = "Examples"  # how the name of a file of examples ends
@@ -621,7 +605,7 @@ def on_section(query: str, book: Book) -> Answer:
         named = sorted({place for place in row.places if place[0][:len(numbers)] == numbers})
         if named:
             rows.append((", ".join(f"{written(numbers)} {word}".strip() for numbers, word in named), row))
-    title = f"{query}  {CHAPTERS.get(numbers[0], '')}".strip()
+    title = f"{query}  {CHAPTERS.get(str(numbers[0]), '')}".strip()
     return Answer(title, [(key[-1], found[key]) for key in sorted(found)], [("Rows of conformance", rows)])
 
 
@@ -784,7 +768,7 @@ def table_line(standard: str, numbers: Numbers, book: Book) -> list[str]:
     rows = [row for row in book.rows if not standard and any(it[:len(numbers)] == numbers for it, _ in row.places)]
     label = f"{standard}, {written(numbers)}" if standard else written(numbers)
     if is_chapter:
-        label = f"**{label} {CHAPTERS.get(numbers[0], '')}**"
+        label = f"**{label} {CHAPTERS.get(str(numbers[0]), '')}**"
     examples = sum(definition.kind == "example" for definition, _ in here)
     files = [f"`{file}`" for file, _ in Counter(row.file for row in rows).most_common()]
     more = f", +{len(files) - FILES}" if len(files) > FILES else ""
