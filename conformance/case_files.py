@@ -22,6 +22,7 @@ from run import BadRow, unquote
 CODE = 0x40
 STATUS = {"quit": 0, "usage": 1, "refused": 1, "fault": 2, "limit": 3, "read": 4, "write": 4}
 END = re.compile(r"quit|usage|(read|write) failed|refused \d|(fault|limit) \d+ at [0-9a-f]{5}")
+HEXADECIMAL = re.compile(r"(?:[0-9A-Fa-f]{2})+")
 QUOTED = r'"(?:[^"\\]|\\.)*"'
 WORD = rf"{QUOTED}|\{{[^{{}}]*\}}|[^\s\"{{}}]+"
 WORDS = re.compile(rf"(?:\s*(?:{WORD})(?!\S))*\s*")
@@ -214,8 +215,12 @@ class Book:
                 said = b"".join(bytes((0xE5, 0x7F, 13 if it == 10 else it)) for it in unquote(next(rest, "")))
             elif word.startswith("{"):
                 said = self.named(word[1:-1])
+            elif word.startswith('"'):
+                said = unquote(word)
+            elif HEXADECIMAL.fullmatch(word):
+                said = bytes.fromhex(word)
             else:
-                said = unquote(word) if word.startswith('"') else bytes.fromhex(word)
+                raise BadRow(f"these are no bytes: {word}")
             made.extend(bytes(max(0, at + len(said) - len(made))))
             made[at:at + len(said)] = said
             at += len(said)
