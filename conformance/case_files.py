@@ -55,12 +55,8 @@ class Run:
     holds: dict[str, object] = field(default_factory=dict)  # what files hold after it, None for one that is not there
 
 
-@dataclass
-class Case:
-    """A case: the runs that stand in it."""
-
-    name: str
-    runs: list[Run] = field(default_factory=list)
+# A case: its name, and the runs that stand in it.
+Case = tuple[str, list[Run]]
 
 
 def header(version: int) -> bytes:
@@ -108,7 +104,7 @@ class Book:
                 self.take(line, f"{path.name}:{number}")
             except (BadRow, ValueError, KeyError, OSError) as error:
                 sys.exit(f"{path.name}:{number}: {error}")
-        if empty := next((it.name for it in self.cases if not it.runs), None):
+        if empty := next((name for name, runs in self.cases if not runs), None):
             sys.exit(f"{path.name}: nothing is run: case {empty}")
 
     def lines(self) -> Iterator[tuple[int, str]]:
@@ -140,7 +136,7 @@ class Book:
                 (self.files if it in other.files else self.texts)[it] = other.named(it)
         elif self.open is None and word == "case":
             self.in_case = True
-            self.cases.append(Case(rest))
+            self.cases.append((rest, []))
         else:
             self.open = self.open or Run(place)
             self.take_of_run(self.open, word, rest)
@@ -190,9 +186,9 @@ class Book:
             usage = run.last == "zkit: usage"
             run.errors = f"{run.told}\n{run.last}\n" if run.told else SOME if usage else last(run.last)
         if self.in_case:
-            self.cases[-1].runs.append(run)
+            self.cases[-1][1].append(run)
         else:
-            self.cases += [Case(f"{run.place} {it}", [replace(run, words=[it])]) for it in run.words]
+            self.cases += [(f"{run.place} {it}", [replace(run, words=[it])]) for it in run.words]
 
     def read_bytes(self, words: list[str], before: bytes = b"") -> bytes:
         """The bytes that words stand for: hexadecimal ones, texts, names in braces, and code that prints a text.
@@ -254,24 +250,24 @@ class Written(Program):
         """Runs the cases of a file."""
         (self.folder / "examples").symlink_to(EXAMPLES)
         self.known.add("examples")
-        for case in book.cases:
-            self.look_for_files(case)
-        for case in book.cases:
-            self.case(case.name, self.check_runs, case)
+        for _, runs in book.cases:
+            self.look_for_files(runs)
+        for name, runs in book.cases:
+            self.case(name, self.check_runs, runs)
 
-    def look_for_files(self, case: Case) -> None:
+    def look_for_files(self, runs: list[Run]) -> None:
         """Ends the script where a run names a file with a dot in its name that is not there, nor named by its case."""
-        named = {name for run in case.runs for name in (*run.before, *run.links, *run.holds)}
-        for run in case.runs:
+        named = {name for run in runs for name in (*run.before, *run.links, *run.holds)}
+        for run in runs:
             for word in [it for words in run.words for it in words_of(words)]:
                 name = os.path.normpath(word)
                 if "." in name and word[0] not in '-"' and name not in named and not (self.folder / name).exists():
                     sys.exit(f"{run.place}: there is no file {word}")
 
-    def check_runs(self, case: Case) -> None:
-        """Runs what stands in a case. No file is left but those that it names, and these hold what was said last."""
+    def check_runs(self, runs: list[Run]) -> None:
+        """Does the runs of a case. No file is left but those that it names, and these hold what was said last."""
         held: dict[str, object] = {}
-        for run in case.runs:
+        for run in runs:
             for name in run.folders:
                 (self.folder / name).mkdir(parents=True)
             for name, target in run.links.items():

@@ -179,9 +179,8 @@ def main() -> None:
         library = preloaded("refused_memory.c", pathlib.Path(place))
         counts: Counter[str] = Counter()
         with concurrent.futures.ThreadPoolExecutor(os.cpu_count()) as pool:
-            for case in BOOK.cases:
-                plan = Plan(case.name, case.runs[0])
-                check_plan(pool, functools.partial(run, command, library), plan, counts, verbose)
+            for name, runs in BOOK.cases:
+                check_plan(pool, functools.partial(run, command, library), Plan(name, runs[0]), counts, verbose)
     if counts["left_out"]:
         print(f"left out of runs with more than {MOST:,} allocations: {counts['left_out']:,}")
     end = f"{counts['differ']:,} differ" if counts["differ"] else "all as it should be"

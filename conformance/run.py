@@ -73,6 +73,7 @@ class Row:
     screen: str = ""
     script: str | None = None  # what the transcript gets, where the row says it
     end: str = ""
+    assembly: list[str] = field(default_factory=list)  # the comments of its bytes
     said: set[str] = field(default_factory=set)  # the words of its lines
 
     def ended(self) -> tuple[int, str]:
@@ -183,8 +184,10 @@ def read_rows(path: pathlib.Path) -> list[Row]:
             continue
         if word not in ("input", "screen", "script"):
             # What follows a semicolon is a comment.
-            stripped = stripped.partition(";")[0].strip()
-            word, _, rest = stripped.partition(" ")
+            stripped, _, comment = stripped.partition(";")
+            word, _, rest = stripped.strip().partition(" ")
+            if line[0].isspace():
+                rows[-1].assembly.append(comment.strip())
         try:
             read_line(rows[-1], word, rest.strip())
         except (BadRow, ValueError, KeyError, IndexError) as error:

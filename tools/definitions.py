@@ -36,7 +36,8 @@ TOP = Path(__file__).resolve().parent.parent
 sys.dont_write_bytecode = True
 sys.path.insert(0, str(TOP / "conformance"))
 
-from edits import Edit, must_fail, refused  # noqa: E402: these stand in the folder that was just named
+import run  # noqa: E402: these stand in the folder that was just named
+from edits import Edit, must_fail, refused  # noqa: E402
 from sources import blocks_of, crates, functions_of  # noqa: E402
 
 PAGE = TOP / "docs" / "DEFINITIONS.md"
@@ -252,15 +253,11 @@ def cited(text: str, names: Names, aliases: Aliases, bound: Iterable[str] = ()) 
         elif first in names and first not in bound and following != "=":
             keys.add(names[first])
     for name, key in names.items():
-        if "◌" in name and uses_operator(words, name):
+        parts = [part for part in name.split("◌") if part]
+        # the steps of a `do` are joined by `>>=`
+        if "◌" in name and (all(it in words for it in parts) or parts == [">>="] and "do" in words):
             keys.add(key)
     return keys
-
-
-def uses_operator(words: list[str], name: str) -> bool:
-    """Whether an operator stands among words. The steps of a `do` are joined by `>>=`."""
-    parts = [part for part in name.split("◌") if part]
-    return all(part in words for part in parts) or (parts == [">>="] and "do" in words)
 
 
 # ---- sections
@@ -551,17 +548,11 @@ def places_of(text: str) -> list[tuple[Numbers, str]]:
 
 def read_rows() -> list[Row]:
     """The rows of conformance, in the order of their files."""
-    rows: list[Row] = []
-    for path in sorted((TOP / "conformance").glob("*.rows")):
-        for number, line in enumerate(path.read_text("utf-8").splitlines(), 1):
-            word, _, rest = line.partition(" ")
-            used = re.match(r"\s[^;]*;\s*(?:\w+:\s+)?(\w+)", line)
-            if word == "row":
-                rows.append(Row(rest.strip(), path.stem, number, [], set()))
-            elif word == "section":
-                rows[-1].places.extend(places_of(rest.partition(";")[0].strip()))
-            elif used:
-                rows[-1].uses.add({"not1": "not", "notv": "not"}.get(used[1], used[1]))
+    rows = []
+    for chapter, row in run.all_rows():
+        found = [re.match(r"(?:\w+:\s+)?(\w+)", it) for it in row.assembly]
+        uses = {{"not1": "not", "notv": "not"}.get(it[1], it[1]) for it in found if it}
+        rows.append(Row(row.name, chapter, int(row.place.partition(":")[2]), places_of(row.section), uses))
     return rows
 
 
@@ -814,18 +805,12 @@ def bare_lines(book: Book) -> list[str]:
     return ["- " + "; ".join(labels) for labels in chapters.values()]
 
 
-def table(titles: list[str], lines: list[list[str]]) -> str:
-    """A table in Markdown."""
-    return "\n".join("| " + " | ".join(line) + " |" for line in [titles, ["---"] * len(titles), *lines]) + "\n"
-
-
 def page(book: Book) -> str:
     """The whole page."""
     kinds = Counter(definition.kind for definition in book.definitions)
     bare = sum(not definition.sections for definition in book.definitions)
-    titles = ["Section", "Definitions", "Main ones", "Examples", "Rows", "Files"]
     lines = [table_line(standard, numbers, book) for standard, numbers in places(book)]
-    parts = {"table": table(titles, lines), "sections": "\n".join(bare_lines(book))}
+    parts = {"table": "\n".join(f"| {' | '.join(it)} |" for it in lines), "sections": "\n".join(bare_lines(book))}
     return TEMPLATE.read_text("utf-8").format(all=len(book.definitions), bare=bare, **kinds, **parts)
 
 

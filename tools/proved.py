@@ -21,6 +21,7 @@ clauses that have one; and each public function with such a clause stands there.
 
 from __future__ import annotations
 
+import functools
 import re
 import sys
 from collections.abc import Iterator
@@ -53,26 +54,25 @@ def names_in(text: str) -> list[str]:
     return re.findall(r"`([^`]+)`", text)
 
 
+@functools.cache
+def text_of(file: str) -> str | None:
+    """The text of a file, or nothing where there is none."""
+    path = TOP / "crates" / file
+    return path.read_text("utf-8") if path.is_file() else None
+
+
 class Book:
-    """What is there: functions and definitions by their files, and the texts of the files."""
+    """What is there: functions and definitions by their files."""
 
     def __init__(self) -> None:
         self.functions: dict[str, list[Function]] = {}
         self.specs: dict[str, dict[str, Definition]] = {}
-        self.texts: dict[str, str | None] = {}
         for crate in crates():
             for function in read_sources(crate, {}):
                 if not function.is_ghost:
                     self.functions.setdefault(f"{crate}/src/{function.file}", []).append(function)
         for path, made in read_specs():
             self.specs[str(path.relative_to(TOP / "crates"))] = {it.name: it for it in made}
-
-    def text(self, file: str) -> str | None:
-        """The text of a file, or nothing where there is none."""
-        if file not in self.texts:
-            path = TOP / "crates" / file
-            self.texts[file] = path.read_text("utf-8") if path.is_file() else None
-        return self.texts[file]
 
     def calls(self, name: str, files: list[str]) -> list[tuple[str, Function]]:
         """The functions of a name, with its type or without one, in files, each with its file."""
@@ -159,7 +159,7 @@ class Row:
         for name in names_in(said):
             words = re.escape(name.removeprefix("impl "))
             pattern = re.compile(rf"^impl(?:<[^{{]*>)? {words}\b.*?^}}", re.M | re.S)
-            found = {file: pattern.search(self.book.text(file) or "") for file in self.files}
+            found = {file: pattern.search(text_of(file) or "") for file in self.files}
             blocks = [block[0] for block in found.values() if block]
             self.used.update(file for file, block in found.items() if block)
             if not blocks:
@@ -178,7 +178,7 @@ class Row:
     def look_for_files(self) -> None:
         """Looks whether the files are there, and whether a name was found in each; moves leave such files out."""
         for file in [] if self.moves else self.files:
-            if self.book.text(file) is None:
+            if text_of(file) is None:
                 self.complain(f"no file {file}")
             elif file not in self.used:
                 self.complain(f"{file} has none of the names")
