@@ -64,11 +64,6 @@ def header(version: int) -> bytes:
     return bytes([version, 0, 0, 0, 0, CODE, 0, CODE]) + bytes(7) + bytes([CODE, 0, 0]) + b"000000" + bytes(40)
 
 
-def version_of(name: str) -> int:
-    """The version of a story by the end of its name, as 5 for `a.z5`, or 3."""
-    return int(name[-1]) if re.search(r"\.z\d$", name) else 3
-
-
 def words_of(text: str) -> list[str]:
     """The words of a text: those in quotes, those in braces, and others."""
     if not WORDS.fullmatch(text):
@@ -128,7 +123,8 @@ class Book:
             if name in self.files or name in self.texts:
                 raise BadRow(f"{name} stands twice")
             into = self.texts if word == "text" else self.files
-            into[name] = self.read_bytes(words, header(version_of(name)) if word == "story" else b"")
+            version = int(name[-1]) if re.search(r"\.z\d$", name) else 3
+            into[name] = self.read_bytes(words, header(version) if word == "story" else b"")
         elif self.open is None and word == "from":
             name, words = name_and_rest(rest)
             other = Book(self.path.with_name(name))

@@ -22,8 +22,8 @@ from collections import Counter
 from collections.abc import Callable, Sequence
 from typing import NamedTuple
 
-from case_files import Book, Run, words_of
-from cases import SECONDS, Program, compiler, preloaded, takes_preloaded
+from case_files import Book, Run, word_bytes, words_of
+from cases import SECONDS, Program, compiler, preloaded, takes_preloaded, text_of
 
 # Of a run with more allocations than this some are left out.
 MOST = 1_000
@@ -41,9 +41,11 @@ NOT_SAVED = re.compile(r"(?<=: the game was not saved: ).*")
 class Plan:
     """A run of the file with its story, if it has one."""
 
-    def __init__(self, name: str, run: Run) -> None:
-        self.name = name
-        self.words = words_of(run.words[0])
+    def __init__(self, run: Run, words: str) -> None:
+        if others := run.said - {"write", "run", "input", "status"}:
+            sys.exit(f"{run.place}: nothing looks at this here: {', '.join(sorted(others))}")
+        self.name = f"{run.place} {words}"
+        self.words = [text_of(word_bytes(it)) for it in words_of(words)]
         self.typed = run.typed
         self.status = run.status
         self.story = next((it for it in self.words if it in BOOK.files), "")
@@ -179,8 +181,8 @@ def main() -> None:
         library = preloaded("refused_memory.c", pathlib.Path(place))
         counts: Counter[str] = Counter()
         with concurrent.futures.ThreadPoolExecutor(os.cpu_count()) as pool:
-            for name, runs in BOOK.cases:
-                check_plan(pool, functools.partial(run, command, library), Plan(name, runs[0]), counts, verbose)
+            for plan in [Plan(it, words) for _, runs in BOOK.cases for it in runs for words in it.words]:
+                check_plan(pool, functools.partial(run, command, library), plan, counts, verbose)
     if counts["left_out"]:
         print(f"left out of runs with more than {MOST:,} allocations: {counts['left_out']:,}")
     end = f"{counts['differ']:,} differ" if counts["differ"] else "all as it should be"

@@ -20,12 +20,12 @@ import pathlib
 import re
 import shutil
 import signal
-import subprocess
 import sys
 import tempfile
 import time
 from collections.abc import Callable, Iterable
 from dataclasses import dataclass, field
+from subprocess import DEVNULL, PIPE, Popen
 from typing import IO, NamedTuple, NoReturn, Optional
 
 import run
@@ -33,7 +33,7 @@ import test
 from edits import BadEdit, Edit, edited, must_fail, mutants, refused, why_not
 from sources import FOLDER, TOP, crates, functions_of
 
-RUNNING: list[subprocess.Popen[str]] = []  # the builds that this script has begun
+RUNNING: list[Popen[str]] = []  # the builds that this script has begun
 TEMPORARY: list[str] = []  # the folders that it has made
 # Enough for all rows that do not end at a limit, and fewer than `zkit play` has, which shortens a run.
 WORDS, STEPS = 1100, 60_000
@@ -378,11 +378,6 @@ def limits_for(row: run.Row) -> tuple[int, int]:
     return (0, 0) if row.end.startswith("limit") else (WORDS, STEPS)
 
 
-def is_slow(row: run.Row, version: int) -> bool:
-    """Whether a row takes long: it ends at a limit, or its story goes on past address 65535."""
-    return row.end.startswith("limit") or len(run.story(row, version)) > 0x10000
-
-
 def write_bundles(folder: pathlib.Path, first: str) -> None:
     """Writes the files `rows` and `slow`, which the player reads; rows whose place has some words come first."""
     bundles: dict[str, list[bytes]] = {"rows": [], "slow": []}
@@ -393,8 +388,9 @@ def write_bundles(folder: pathlib.Path, first: str) -> None:
         for row in rows:
             # One version is enough of a row that ends at a limit.
             if version == row.versions[0] or version in row.versions and not row.end.startswith("limit"):
-                name = "slow" if is_slow(row, version) else "rows"
-                bundles[name].append(bundled(row, version))
+                # A row takes long that ends at a limit, or whose story goes on past address 65535.
+                is_slow = row.end.startswith("limit") or len(run.story(row, version)) > 0x10000
+                bundles["slow" if is_slow else "rows"].append(bundled(row, version))
     for name, parts in bundles.items():
         (folder / name).write_bytes(b"".join(parts))
 
@@ -416,14 +412,13 @@ def refused_by(shown: str, said: str, ended: str) -> str | None:
     return f"row, by {ended}"
 
 
-def begin(copy: pathlib.Path, folder: pathlib.Path, shown: IO[bytes], way: Way) -> subprocess.Popen[str]:
+def begin(copy: pathlib.Path, folder: pathlib.Path, shown: IO[bytes], way: Way) -> Popen[str]:
     """Builds a copy's player, and begins to run it for each case of a folder."""
     words = ["rt", "try", "--steps", "1", "--seconds", str(way.seconds), "--cases", str(folder / "cases")]
     for name in ("rows", "slow"):
         words += ["--data", f"{name}={folder.parent / name}"]
     place, env = copy / "crates/player", {**os.environ, "RT_ALLOW_C": "1"}
-    nothing, pipe = subprocess.DEVNULL, subprocess.PIPE
-    program = subprocess.Popen(words, cwd=place, env=env, stdin=nothing, stdout=shown, stderr=pipe, errors="replace")
+    program = Popen(words, cwd=place, env=env, stdin=DEVNULL, stdout=shown, stderr=PIPE, errors="replace")
     RUNNING.append(program)
     return program
 

@@ -14,27 +14,20 @@ import fcntl
 import os
 import re
 import resource
-import subprocess
 import sys
 from collections.abc import Iterable
 from pathlib import Path
+from subprocess import DEVNULL, PIPE, Popen
 
 from case_files import Book, Written
 from cases import ANY, Differs, compiler, last, preloaded, run_cases, same, shown, shown_up_to, takes_preloaded
-
-# What a story shows before each read, with the line that is typed, "" for none.
-Turns = Iterable[tuple[str, str]]
 
 # What the file is called that a saved game is written in.
 BESIDE = re.compile(r"\.zkit-[0-9a-f]{16}")
 BOOK = Book(Path(__file__).with_name("program.cases"))
 OLD, GAME = BOOK.texts["old_game"], BOOK.texts["game"]
 SAVE = "play --save kept saves_on.z3"
-
-
-def not_saved(why: str) -> str:
-    """What standard error says where a game is not saved to `kept`."""
-    return f"zkit: kept: the game was not saved: {why}\n"
+NOT_SAVED = "zkit: kept: the game was not saved: "
 
 
 def rights_of(path: Path) -> tuple[int, int, int]:
@@ -110,7 +103,7 @@ class Cases(Written):
         (beside,) = self.killed_save()
         with open(beside, "rb") as held:
             fcntl.flock(held, fcntl.LOCK_EX)
-            self.check((ANY, ANY, not_saved("another play is saving to it")), SAVE)
+            self.check((ANY, ANY, NOT_SAVED + "another play is saving to it\n"), SAVE)
             self.check(shown(""), "play --save kept2 saves_on.z3")
             same([beside.name, "kept2"], self.new())
 
@@ -147,7 +140,7 @@ class Cases(Written):
     def check_unwritable(self) -> None:
         """A game that its owner may not write is not replaced; who may write to every file can't see this."""
         if not os.access(self.kept_before(0o400), os.W_OK):
-            self.check((ANY, ANY, not_saved("permission denied")), SAVE)
+            self.check((ANY, ANY, NOT_SAVED + "permission denied\n"), SAVE)
             same(OLD, self.read("kept"))
 
     def check_refusals(self) -> None:
@@ -195,12 +188,10 @@ class Cases(Written):
         with open(writer, "wb") as pipe:
             self.check((4, "", last("zkit: write failed")), words, stdout=pipe)
 
-    def check_prompt(self, words: str, turns: Turns) -> None:
-        """What a story shows before a read is on the screen before the line is typed: a turn has that and the line."""
-        command, pipe = [*self.command, *words.split(), "reads.z5"], subprocess.PIPE
-        with subprocess.Popen(
-            command, cwd=self.folder, stdin=pipe, stdout=pipe, stderr=subprocess.DEVNULL, bufsize=0
-        ) as playing:
+    def check_prompt(self, words: str, turns: Iterable[tuple[str, str]]) -> None:
+        """Looks whether the text of each turn is on the screen before its line is typed, if one is."""
+        command = [*self.command, *words.split(), "reads.z5"]
+        with Popen(command, cwd=self.folder, stdin=PIPE, stdout=PIPE, stderr=DEVNULL, bufsize=0) as playing:
             assert playing.stdin and playing.stdout
             for wanted, line in turns:
                 came = shown_up_to(playing.stdout.fileno(), wanted)
@@ -209,15 +200,14 @@ class Cases(Written):
                 same(wanted, came, f"before {line!r}")
                 playing.stdin.write(line.encode())
 
-    def run_screens(self) -> None:
-        """Runs the cases of a pipe that nobody reads, and of screens that wait."""
+    def run_readers(self) -> None:
+        """Runs the cases of a pipe that nobody reads, and of plays that wait for a line."""
         # nothing is run after the write that fails: endless.z3 has no end, and the limit on instructions is far
         for words in ("play lines.z3", "play --steps 1000000000 endless.z3", "disasm lines.z3"):
             name = words.replace("--steps 1000000000 ", "")
             self.case(f"{name} into a closed pipe", self.check_closed_pipe, words)
-        plain: Turns = ((">", "go\n"), ("g>", "up\n"), ("u", ""))
+        plain, echoed = ((">", "go\n"), ("g>", "up\n"), ("u", "")), ((">", "go\n"), ("go\ng>", "up\n"), ("up\nu", ""))
         self.case("play reads.z5, line by line", self.check_prompt, "play", plain)
-        echoed: Turns = ((">", "go\n"), ("go\ng>", "up\n"), ("up\nu", ""))
         self.case("play --echo reads.z5, line by line", self.check_prompt, "play --echo", echoed)
 
     def run_all(self) -> None:
@@ -233,7 +223,7 @@ class Cases(Written):
             self.case("play unreadable", self.check, (4, "", told), "play unreadable")
             self.case("play unreadable, in words", self.check, (ANY, ANY, told), "play unreadable")
         self.run_saves()
-        self.run_screens()
+        self.run_readers()
 
 
 if __name__ == "__main__":

@@ -69,20 +69,6 @@ class Sessions(Asked):
         same((0, True), (status, bool(found)), told)
         self.check(shown(text), f"play --seed {found and found[1]} throws.z5", b"x\n")
 
-    def saves_by_name(self) -> None:
-        """Names are the next lines of the input; what is offered is taken by an empty line."""
-        (self.folder / "games").mkdir()
-        told = "zkit: save to which file [keeps.qzl]? zkit: restore from which file [storm]? "
-        # the restored game goes on after its save, which answers 2, and asks for a name once more
-        wanted = (0, "1\n2\n0\n", f"{told}zkit: restore from which file [storm]? ")
-        self.check(wanted, "play --saves games keeps.z4", b"storm\n\n")
-        lost = (
-            "zkit: save to which file [keeps.qzl]? zkit: restore from which file [keeps.qzl]? "
-            "zkit: games/lost: no saved game: there is no such file or folder\n"
-        )
-        self.check((0, "1\n0\n", lost), "play --saves games keeps.z4", b"\nlost\n")
-        same(self.read("games/storm"), self.read("games/keeps.qzl"))
-
     def records_in_folders(self) -> None:
         """A record in a folder names the story from there."""
         (self.folder / "made/deep").mkdir(parents=True)

@@ -9,8 +9,8 @@ import functools
 import pathlib
 import re
 import shutil
-import subprocess
 from collections.abc import Iterable, Iterator
+from subprocess import DEVNULL, PIPE, STDOUT, Popen
 from typing import NamedTuple
 
 FOLDER = pathlib.Path(__file__).resolve().parent
@@ -43,13 +43,9 @@ def copy_of(folder: pathlib.Path) -> None:
     (folder / ".git").mkdir()
 
 
-def begin_rt(words: list[str], folder: pathlib.Path) -> subprocess.Popen[str]:
+def begin_rt(words: list[str], folder: pathlib.Path) -> Popen[str]:
     """Begins a command of `rt` in a folder. All that it says is one text."""
-    pipe, both = subprocess.PIPE, subprocess.STDOUT
-    command = ["rt", *words]
-    return subprocess.Popen(
-        command, cwd=folder, stdin=subprocess.DEVNULL, stdout=pipe, stderr=both, text=True, errors="replace"
-    )
+    return Popen(["rt", *words], cwd=folder, stdin=DEVNULL, stdout=PIPE, stderr=STDOUT, text=True, errors="replace")
 
 
 class Block(NamedTuple):

@@ -127,10 +127,6 @@ class Definition:
         """Its sections that lie in the one of these numbers, in order."""
         return sorted(it for it in self.sections if it.standard == standard and it.lies_in(numbers))
 
-    def lines_with(self, variants: set[str]) -> list[str]:
-        """Its lines that name one of some variants."""
-        return [line.strip(" ∷") for line in self.text.splitlines() if variants & words_of(line)]
-
     def names_any(self, names: set[str]) -> bool:
         """Whether its comment names one of some opcodes, in quotes or by its entry in chapter 15."""
         entries = [word for section in self.sections if self.has_own for word in section.words]
@@ -610,7 +606,7 @@ def on_opcode(query: str, book: Book) -> Answer:
     cites: set[Key] = set()
     for definition in book.definitions:
         named = variants & definition.variants
-        quotes = definition.lines_with(named)
+        quotes = [line.strip(" ∷") for line in definition.text.splitlines() if named & words_of(line)]
         cited_there = [cites for left, cites in definition.equations if named & words_of(left)]
         if cited_there:
             meaning.append((definition, quotes))
@@ -653,12 +649,8 @@ def has_word(text: str, word: str) -> bool:
 
 def answer(query: str, book: Book) -> Answer | None:
     """What there is on a query, if there is anything."""
-    if re.fullmatch(NUMBER, query):
-        found = on_section(query, book)
-    elif any(opcode.name == query for opcode in book.opcodes):
-        found = on_opcode(query, book)
-    else:
-        found = on_word(query, book)
+    is_opcode = any(opcode.name == query for opcode in book.opcodes)
+    found = (on_section if re.fullmatch(NUMBER, query) else on_opcode if is_opcode else on_word)(query, book)
     is_there = any(entries for _, entries in found.definitions) or any(rows for _, rows in found.rows)
     return found if is_there else None
 

@@ -20,7 +20,7 @@ import shutil
 import subprocess
 import sys
 import tempfile
-from typing import Any, NamedTuple
+from typing import Any
 
 TOP = pathlib.Path(__file__).resolve().parent.parent
 sys.dont_write_bytecode = True
@@ -31,13 +31,8 @@ import sources  # noqa: E402: it stands in the folder that was just named
 PAGE = TOP / "docs/PROVING.md"
 BEGIN, END = "<!-- the table of tools/gate_times.py begins -->\n", "<!-- the table of tools/gate_times.py ends -->\n"
 DEAREST = 3
-
-
-class Measured(NamedTuple):
-    """A crate's row, and the seconds of a processor that it took."""
-
-    row: str
-    seconds: float
+# A crate's row, and the seconds of a processor that it took.
+Measured = tuple[str, float]
 
 
 def toolchain() -> Any:
@@ -82,7 +77,7 @@ def measure(rtlib: Any, crate: Any) -> Measured:
         subprocess.run(["rt", "lib"], cwd=crate.folder, check=True, stdin=subprocess.DEVNULL, stdout=subprocess.DEVNULL)
     seconds: float = used.ru_utime + used.ru_stime
     told = ", ".join(f"`{it}` {round(time)}" for it, time in dearest(kept))
-    return Measured(f"| `{crate.name}` | {functions} | {round(seconds)} | {told} |", seconds)
+    return f"| `{crate.name}` | {functions} | {round(seconds)} | {told} |", seconds
 
 
 def measure_all(rtlib: Any, crates: list[Any], jobs: int) -> list[Measured]:
@@ -92,7 +87,7 @@ def measure_all(rtlib: Any, crates: list[Any], jobs: int) -> list[Measured]:
     def work(crate: Any) -> Measured:
         concurrent.futures.wait([rows[it.name] for it in crate.below()])
         row = measure(rtlib, crate)
-        print(row.row, file=sys.stderr, flush=True)
+        print(row[0], file=sys.stderr, flush=True)
         return row
 
     with concurrent.futures.ThreadPoolExecutor(jobs) as pool:
@@ -104,8 +99,8 @@ def measure_all(rtlib: Any, crates: list[Any], jobs: int) -> list[Measured]:
 def table(rows: list[Measured]) -> str:
     """The table of the page."""
     head = "| Crate | Functions | Seconds of a processor | Dearest functions, in seconds |\n| --- | --- | --- | --- |\n"
-    total = round(sum(it.seconds for it in rows) / 60)
-    return head + "".join(f"{it.row}\n" for it in rows) + f"| all | | {total} minutes | |\n"
+    total = round(sum(seconds for _, seconds in rows) / 60)
+    return head + "".join(f"{row}\n" for row, _ in rows) + f"| all | | {total} minutes | |\n"
 
 
 def main() -> None:

@@ -96,20 +96,18 @@ def with_usage(text: str, command: str, options: list[Option], last: str) -> str
 def with_rows(text: str, options: list[Option]) -> str:
     """The manual with the ranges and defaults of its table."""
     for it in options:
-        if it.value == "n":
-            row = rf"(?m)^(\| `--{it.name} n` \| [^|]* \|)[^|]*\|[^|]*\|([^|]*)\|$"
-            default = f" {it.default:,} " if it.default is not None else r"\2"
-            text = re.sub(row, rf"\1 {it.least:,} | {it.most:,} |{default}|", text)
+        row = rf"(?m)^(\| `--{it.name} n` \| [^|]* \|)[^|]*\|[^|]*\|([^|]*)\|$"
+        default = f" {it.default:,} " if it.default is not None else r"\2"
+        text = re.sub(row, rf"\1 {it.least:,} | {it.most:,} |{default}|", text)
     return text
 
 
 def with_entries(text: str, options: list[Option]) -> str:
     """The page for man with the ranges and defaults of its entries."""
     for it in options:
-        if it.value == "n":
-            entry = rf'(?s)(\.BI \\-\\-{it.name} " n"\n.*?)\d+ to \d+(?:; without it \d+)?'
-            default = f"; without it {it.default}" if it.default is not None else ""
-            text = re.sub(entry, lambda found: f"{found[1]}{it.least} to {it.most}{default}", text, count=1)
+        entry = rf'(?s)(\.BI \\-\\-{it.name} " n"\n.*?)\d+ to \d+(?:; without it \d+)?'
+        default = f"; without it {it.default}" if it.default is not None else ""
+        text = re.sub(entry, lambda found: f"{found[1]}{it.least} to {it.most}{default}", text, count=1)
     return text
 
 
@@ -155,6 +153,7 @@ def made() -> dict[Path, str]:
     """Each page as it has to be."""
     text = TABLE.read_text("utf-8")
     play = read_options(text, "PLAY_OPTIONS")
+    numbers = [it for it in play if it.value == "n"]
     commands = [
         ("play", play, "STORY"),
         ("info", read_options(text, "INFO_OPTIONS"), "STORY..."),
@@ -167,11 +166,11 @@ def made() -> dict[Path, str]:
         page = (TOP / name).read_text("utf-8")
         for command, options, last in commands:
             page = with_usage(page, command, options, last)
-        pages[TOP / name] = with_rows(page, play)
+        pages[TOP / name] = with_rows(page, numbers)
     manual = (TOP / "docs" / "zkit.1").read_text("utf-8")
     for command, options, _ in commands:
         manual = with_synopsis(manual, command, options)
-    pages[TOP / "docs" / "zkit.1"] = with_entries(manual, play)
+    pages[TOP / "docs" / "zkit.1"] = with_entries(manual, numbers)
     header = TOP / "include" / "zkit.h"
     pages[header] = with_constants(header.read_text("utf-8"), play)
     findings = read_findings(FINDINGS.read_text("utf-8"))

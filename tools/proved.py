@@ -25,6 +25,7 @@ import functools
 import re
 import sys
 from collections.abc import Iterator
+from dataclasses import dataclass, field
 from pathlib import Path
 
 from definitions import Definition, Function, read_sources, read_specs
@@ -81,17 +82,17 @@ class Book:
         return [it for it in named if it[1].owner == owner] or [it for it in named if it[1].trait == owner]
 
 
+@dataclass
 class Row:
     """A row whose citations are looked for. It notes which of its files have one."""
 
-    def __init__(self, book: Book, number: int, files: list[str], complaints: list[str], moves: bool) -> None:
-        self.book = book
-        self.number = number
-        self.files = files
-        self.moves = moves
-        self.used: set[str] = set()
-        self.complaints = complaints
-        self.owner = ""
+    book: Book
+    number: int
+    files: list[str]
+    complaints: list[str]
+    moves: bool
+    used: set[str] = field(default_factory=set)
+    owner: str = ""
 
     def complain(self, words: str) -> None:
         """Notes what is wrong with it."""
@@ -149,9 +150,9 @@ class Row:
             for call in calls:
                 if [kind for kind, _ in call.clauses].count("ensures") != 1:
                     self.complain(f"`{name}` has not one clause alone")
-            for field in names_in(fields):
-                if not any(re.search(rf"^\s+pub {re.escape(field)} :", it.text, re.M) for it in found):
-                    self.complain(f"`{name}` has no field `{field}`")
+            for own in names_in(fields):
+                if not any(re.search(rf"^\s+pub {re.escape(own)} :", it.text, re.M) for it in found):
+                    self.complain(f"`{name}` has no field `{own}`")
 
     def look_for_implementations(self, part: str) -> None:
         """Looks for implementations with ghost items."""
@@ -221,11 +222,6 @@ def look_at_duty(row: Row, called: str) -> list[Function]:
     return calls
 
 
-def with_files(line: str, cell: str, files: list[str]) -> str:
-    """A row with its files in place of those that it has."""
-    return line.removesuffix(f"{cell} |") + ", ".join(f"`{it}`" for it in files) + " |"
-
-
 def main() -> int:
     """Looks at all rows, and answers 1 where something is wrong."""
     moves = sys.argv[1:] == ["--write"]
@@ -245,7 +241,8 @@ def main() -> int:
         else:
             listed.extend(look_at_duty(row, cells[0]))
         if moves:
-            lines[number - 1] = with_files(lines[number - 1], cells[2], [it for it in row.files if it in row.used])
+            files = ", ".join(f"`{it}`" for it in row.files if it in row.used)
+            lines[number - 1] = f"{lines[number - 1].removesuffix(f'{cells[2]} |')}{files} |"
     for file, functions in book.functions.items():
         for function in functions:
             if function.public and wanted_by(function) and function not in listed:
