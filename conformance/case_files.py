@@ -120,22 +120,25 @@ class Book:
             self.close()
         elif self.open is None and word in ("story", "file", "text"):
             name, words = name_and_rest(rest)
-            if name in self.files or name in self.texts:
-                raise BadRow(f"{name} stands twice")
-            into = self.texts if word == "text" else self.files
             version = int(name[-1]) if re.search(r"\.z\d$", name) else 3
-            into[name] = self.read_bytes(words, header(version) if word == "story" else b"")
+            self.add(word, name, self.read_bytes(words, header(version) if word == "story" else b""))
         elif self.open is None and word == "from":
             name, words = name_and_rest(rest)
             other = Book(self.path.with_name(name))
             for it in words:
-                (self.files if it in other.files else self.texts)[it] = other.named(it)
+                self.add("file" if it in other.files else "text", it, other.named(it))
         elif self.open is None and word == "case":
             self.in_case = True
             self.cases.append((rest, []))
         else:
             self.open = self.open or Run(place)
             self.take_of_run(self.open, word, rest)
+
+    def add(self, kind: str, name: str, content: bytes) -> None:
+        """Adds a text or a file."""
+        if name in self.files or name in self.texts:
+            raise BadRow(f"{name} stands twice")
+        (self.texts if kind == "text" else self.files)[name] = content
 
     def take_of_run(self, run: Run, word: str, rest: str) -> None:
         """Takes a line on a run."""

@@ -92,15 +92,10 @@ def long_text(version: int, place: str, saying: str) -> bytes:
 def long_check(version: int, saying: str) -> bytes:
     """A text of all abbreviations: 95 are as long as the story, and the last names another, so that none is shown."""
     names = [part for number in range(96) for part in (number // 32 + 1, number % 32)]
-    return story(
-        version,
-        printing(version, "screen", TABLE),
-        abbreviations(TEXTS, 2),
-        (ABBREVIATIONS + 2 * 95, words_of([NESTED // 2])),
-        (NESTED, text_of((1, 6, 6), 1)),
-        (TEXTS, text_of(SAYINGS[saying], (LENGTHS[version] - TEXTS) // 2)),
-        (TABLE, text_of(tuple(names), 64)),
-    )
+    long = (TEXTS, text_of(SAYINGS[saying], (LENGTHS[version] - TEXTS) // 2))
+    last = ((ABBREVIATIONS + 2 * 95, words_of([NESTED // 2])), (NESTED, text_of((1, 6, 6), 1)))
+    code, uses = printing(version, "screen", TABLE), (TABLE, text_of(tuple(names), 64))
+    return story(version, code, abbreviations(TEXTS, 2), *last, long, uses)
 
 
 def long_rows(version: int, place: str) -> bytes:
