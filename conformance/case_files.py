@@ -187,7 +187,7 @@ class Book:
         if self.in_case:
             self.cases[-1][1].append(run)
         else:
-            self.cases += [(f"{run.place} {it}", [replace(run, words=[it])]) for it in run.words]
+            self.cases += [(it, [replace(run, words=[it])]) for it in run.words]
 
     def read_bytes(self, words: list[str], before: bytes = b"") -> bytes:
         """The bytes that words stand for: hexadecimal ones, texts, names in braces, and code that prints a text.
@@ -276,12 +276,13 @@ class Written(Program):
                 held.update({name: text_of(content) for name, content in run.before.items()})
                 wanted = (run.status, run.screen, run.errors)
                 came = self.run([word_bytes(it) for it in words_of(words)], run.typed, run.redirected)
-                same(wanted, came, words)
+                place = f"{run.place} {words}"
+                same(wanted, came, place)
                 held.update(run.holds)
                 for name, content in held.items():
                     there = self.read(name)
-                    same(content, there if there is None else text_of(there), f"{words}: {name}")
-                same([], [it for it in self.left() if it not in held], f"{words}: left")
+                    same(content, there if there is None else text_of(there), f"{place}: {name}")
+                same([], [it for it in self.left() if it not in held], f"{place}: left")
 
     def left(self) -> list[str]:
         """The paths of the files in the folder that were not there at first."""
