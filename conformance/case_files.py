@@ -151,9 +151,9 @@ class Book:
         elif word == "write":
             run.before[name] = self.read_bytes(words)
         elif word == "link":
-            run.links[name] = " ".join(words)
+            run.links[name] = text_of(b" ".join(word_bytes(it) for it in words))
         elif word == "folder":
-            run.folders.append(rest)
+            run.folders.append(text_of(word_bytes(rest)))
         elif word == "holds":
             run.holds[name] = None if words == ["nothing"] else self.read_wanted(words)
         elif word == "input":
