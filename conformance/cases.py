@@ -7,45 +7,23 @@ from __future__ import annotations
 
 import itertools
 import os
+import select
 import shutil
 import subprocess
 import sys
 import tempfile
-from collections.abc import Callable, Mapping
+import time
+from collections.abc import Callable, Mapping, Sequence
 from pathlib import Path
 from typing import Any, Union
 
 SECONDS = 20
-END = "\n"
 EXAMPLES = Path(__file__).resolve().parent.parent / "examples"
 # The words of a run: a text, or one by one where they have spaces or are no text.
-Words = Union[str, list[Union[str, bytes]]]
+Words = Union[str, Sequence[Union[str, bytes]]]
 # The status of a run, and what it shows on standard output and standard error. What is wanted may be a `Where`.
 Ended = tuple[int, str, str]
 Wanted = tuple[Any, Any, Any]
-
-
-# Stories.
-
-
-def story(code: str, version: int = 3, length: int = 0, bytes_at: dict[int, int] | None = None, **header: int) -> bytes:
-    """A story with its code at address 40: hexadecimal digits, and words of the header and bytes by their addresses."""
-    image = bytearray(64)
-    image[0] = version
-    image[0x12:0x18] = b"000000"
-    for name, value in {"x04": 0x40, "x06": 0x40, "x0e": 0x40, **header}.items():
-        at = int(name[1:], 16)
-        image[at:at + 2] = value.to_bytes(2, "big")
-    image += bytes.fromhex(code)
-    image += bytes(max(0, length - len(image)))
-    for at, byte in (bytes_at or {}).items():
-        image[at] = byte
-    return bytes(image)
-
-
-def printing(text: str) -> str:
-    """Code that prints a text of ASCII, character by character (`print_char`, 13 for a new line)."""
-    return "".join(f"E57F{13 if letter == END else ord(letter):02X}" for letter in text)
 
 
 # What is wanted.
@@ -93,11 +71,6 @@ def shown(text: object) -> Wanted:
     return 0, text, ""
 
 
-def ends(status: int, line: str, text: object = "") -> Wanted:
-    """What comes of a run that shows a text and ends with a status and a last line on standard error."""
-    return status, text, last(line)
-
-
 def unlike(wanted: object, came: object) -> str:
     """What differs, in words: of what is long the parts and the line that do."""
     whole = f"wanted {wanted!r}, came {came!r}"
@@ -121,6 +94,23 @@ def same(wanted: object, came: object, of: str = "") -> None:
 def text_of(content: bytes | None) -> str:
     """Bytes as a text of which none is lost."""
     return (content or b"").decode("utf-8", "surrogateescape")
+
+
+def shown_up_to(stream: int, text: str | None) -> str:
+    """What a terminal or a pipe shows up to a text, or to its end."""
+    came = b""
+    end = time.monotonic() + SECONDS
+    while time.monotonic() < end and (text is None or text.encode() not in came):
+        if not select.select([stream], [], [], 1)[0]:
+            continue
+        try:
+            more = os.read(stream, 4096)
+        except OSError:
+            break
+        if not more:
+            break
+        came += more
+    return text_of(came)
 
 
 class Program:
@@ -150,10 +140,10 @@ class Program:
         """The names in the folder that were not there at first."""
         return sorted(set(os.listdir(self.folder)) - self.known)
 
-    def run(self, words: Words, typed: bytes = b"", closed: str = "", **how: Any) -> Ended:
-        """Runs the program in the folder, where a shell closes what it is told to close."""
-        command = ["sh", "-c", f'exec "$0" "$@" {closed}', *self.command] if closed else self.command
-        parts: list[str | bytes] = [*words.split()] if isinstance(words, str) else words
+    def run(self, words: Words, typed: bytes = b"", redirected: str = "", **how: Any) -> Ended:
+        """Runs the program in the folder, where a shell may redirect what it reads and shows."""
+        command = ["sh", "-c", f'exec "$0" "$@" {redirected}', *self.command] if redirected else self.command
+        parts = words.split() if isinstance(words, str) else words
         how = {"stdout": subprocess.PIPE, "stderr": subprocess.PIPE, **how}
         done = subprocess.run([*command, *parts], cwd=self.folder, input=typed, timeout=SECONDS, **how)
         return done.returncode, text_of(done.stdout), text_of(done.stderr)
@@ -212,9 +202,8 @@ def compiler() -> str | None:
     return shutil.which("cc") or shutil.which("gcc") or shutil.which("clang")
 
 
-def preloaded(code: str, folder: Path) -> str:
-    """Compiles what is loaded before the program, and answers its path."""
-    source, library = folder / "refusing.c", folder / "refusing.so"
-    source.write_text(code)
-    subprocess.run([compiler() or "cc", "-shared", "-fPIC", "-O", "-o", library, source, "-ldl"], check=True)
+def preloaded(source: str, folder: Path) -> str:
+    """Compiles what is loaded before the program, a file that stands beside this one, and answers its path."""
+    library, path = folder / "preloaded.so", Path(__file__).with_name(source)
+    subprocess.run([compiler() or "cc", "-shared", "-fPIC", "-O", "-o", library, path, "-ldl"], check=True)
     return str(library)

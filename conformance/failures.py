@@ -4,7 +4,8 @@
 usage: conformance/failures.py [-v] COMMAND
 
 COMMAND is the program itself, which is built already and no script, as `conformance/failures.py crates/zkit/out/zkit`.
-README.md ("Refused memory") says what may come of a refused allocation. It takes a C compiler.
+The runs stand in failures.cases. README.md ("Refused memory") says what may come of a refused allocation. It takes a C
+compiler.
 """
 
 from __future__ import annotations
@@ -18,104 +19,37 @@ import subprocess
 import sys
 import tempfile
 from collections import Counter
-from collections.abc import Callable, Iterator, Sequence
+from collections.abc import Callable, Sequence
 from typing import NamedTuple
 
-from cases import EXAMPLES, SECONDS, Program, compiler, preloaded, story, takes_preloaded
+from case_files import Book, Run, word_bytes, words_of
+from cases import SECONDS, Program, compiler, preloaded, takes_preloaded, text_of
 
 # Of a run with more allocations than this some are left out.
 MOST = 1_000
 # So many at both ends of such a run are taken all the same.
 ENDS = 50
 
-# Counts the allocations from `main` on, refuses the one whose number REFUSED says, and leaves their count in the file
-# ASKED.
-PRELOADED = """
-#define _GNU_SOURCE
-#include <dlfcn.h>
-#include <errno.h>
-#include <fcntl.h>
-#include <stdlib.h>
-#include <unistd.h>
-
-void *__libc_malloc(size_t size);
-void *__libc_calloc(size_t count, size_t size);
-void *__libc_realloc(void *block, size_t size);
-void *__libc_memalign(size_t step, size_t size);
-
-typedef int main_function(int, char **, char **);
-typedef int start_function(main_function *, int, char **, void (*)(void), void (*)(void), void (*)(void), void *);
-
-static main_function *real_main;
-static long refused, asked;
-static int counts;
-
-static int refuses(void) {
-    if (!counts || ++asked != refused) return 0;
-    errno = ENOMEM;
-    return 1;
-}
-
-void *malloc(size_t size) { return refuses() ? 0 : __libc_malloc(size); }
-void *calloc(size_t count, size_t size) { return refuses() ? 0 : __libc_calloc(count, size); }
-void *realloc(void *block, size_t size) { return refuses() ? 0 : __libc_realloc(block, size); }
-void *memalign(size_t step, size_t size) { return refuses() ? 0 : __libc_memalign(step, size); }
-void *aligned_alloc(size_t step, size_t size) { return refuses() ? 0 : __libc_memalign(step, size); }
-
-int posix_memalign(void **block, size_t step, size_t size) {
-    void *made = refuses() ? 0 : __libc_memalign(step, size);
-    if (!made) return ENOMEM;
-    *block = made;
-    return 0;
-}
-
-static int counted_main(int count, char **words, char **variables) {
-    counts = 1;
-    return real_main(count, words, variables);
-}
-
-int __libc_start_main(main_function *main, int count, char **words, void (*begin)(void), void (*end)(void),
-                      void (*unload)(void), void *stack) {
-    const char *number = getenv("REFUSED");
-    refused = number ? atol(number) : 0;
-    real_main = main;
-    start_function *start = dlsym(RTLD_NEXT, "__libc_start_main");
-    return start(counted_main, count, words, begin, end, unload, stack);
-}
-
-__attribute__((destructor)) static void tell(void) {
-    const char *path = getenv("ASKED");
-    int file = path ? creat(path, 0600) : -1;
-    if (file < 0 || write(file, &asked, sizeof asked) < 0) _exit(99);
-    close(file);
-}
-"""
-
 # The name of the file beside `kept` that a save writes: where a folder has it, a save fails, and a restore does not.
 BESIDE = ".zkit-583876d75cd7d1d9"
 OLD_SCRIPT = b"an old transcript"
 NO_MEMORY = "zkit: out of memory\n"
+BOOK = Book(pathlib.Path(__file__).with_name("failures.cases"))
 NOT_SAVED = re.compile(r"(?<=: the game was not saved: ).*")
 
-# Restores a game, saves another, and restores that; the input ends there.
-RESTORED = b"restore\ninventory\ndrop letter\nsave\ntake letter\nrestore\ninventory\n"
-# A story of version 5 that keeps a state by `save_undo`, shows the answer and ends.
-KEEPING = story("be 09 ff 00 e6 bf 00 ba", version=5)
-# How many bytes of the game are cut off for a check that finds something.
-CUT_OFF = 2_048
-SECTIONS = ("--header", "--map", "--abbreviations", "--dictionary", "--objects", "--tree")
-LISTINGS = ("info", *(f"info {section}" for section in SECTIONS), f"info {' '.join(SECTIONS)}", "disasm", "check")
 
+class Plan:
+    """A run of the file with its story, if it has one."""
 
-class Plan(NamedTuple):
-    """What is run: its words, `story` among them, and what is there and typed; the status is that with memory."""
-
-    name: str
-    words: str
-    story: bytes
-    typed: bytes = b""
-    old: bytes | None = None  # the saved game that is there before
-    status: int = 0
+    def __init__(self, run: Run, words: str) -> None:
+        if others := run.said - {"write", "run", "input", "status"}:
+            sys.exit(f"{run.place}: nothing looks at this here: {', '.join(sorted(others))}")
+        self.name = f"{run.place} {words}"
+        self.words = [text_of(word_bytes(it)) for it in words_of(words)]
+        self.typed = run.typed
+        self.status = run.status
+        self.story = next((it for it in self.words if it in BOOK.files), "")
+        self.before = {"said": OLD_SCRIPT, **run.before, **{it: BOOK.files[it] for it in [self.story] if it}}
 
 
 class Came(NamedTuple):
@@ -135,41 +69,10 @@ class Came(NamedTuple):
 Play = Callable[[Plan, int, bool], tuple[int, Came]]
 
 
-def game(version: int) -> bytes:
-    """The game of the examples, with its transcript turned on by Flags 2."""
-    story = bytearray((EXAMPLES / f"lighthouse.z{version}").read_bytes())
-    story[0x11] |= 1
-    return bytes(story)
-
-
-def plans_of(version: int) -> Iterator[Plan]:
-    """What is run with the game in a version."""
-    name, story = f"lighthouse.z{version}", game(version)
-    saves, old = ((EXAMPLES / path).read_bytes() for path in ("lighthouse.saves", f"{name}.dfrotz"))
-    yield Plan(f"{name}: the game saved", "play --save kept --undo 3 --upper --script said story", story, saves)
-    yield Plan(f"{name}: the game saved over another", "play --save kept --script said story", story, RESTORED, old)
-    yield Plan(f"{name}: no file for the game", "play --undo 1 story", story, saves)
-    yield Plan(f"{name}: a limit", "play --steps 50 --script said story", story, status=3)
-    yield Plan(f"{name}: the story's own file", "play --save ./story story", story, status=1)
-    yield Plan(f"{name}: check of a copy that was cut off", "check story", story[:-CUT_OFF], status=6)
-    for words in LISTINGS:
-        yield Plan(f"{name}: {words}", f"{words} story", story)
-
-
-def plans() -> Iterator[Plan]:
-    """All that is run."""
-    yield Plan("help", "play --help", b"")
-    yield Plan("no story", "play story", b"", status=1)
-    yield Plan("a state to go back to", "play story", KEEPING)
-    for version in (3, 5, 8):
-        yield from plans_of(version)
-
-
 def run(command: pathlib.Path, library: str, plan: Plan, number: int, saves: bool) -> tuple[int, Came]:
     """Runs the program in a folder of its own, as a `Play`."""
-    before = {"story": plan.story, "said": OLD_SCRIPT, **({} if plan.old is None else {"kept": plan.old})}
     with tempfile.TemporaryDirectory() as place:
-        program = Program([str(command)], pathlib.Path(place), before)
+        program = Program([str(command)], pathlib.Path(place), plan.before)
         if not saves:
             (program.folder / BESIDE).mkdir()
         env = {"LD_PRELOAD": library, "REFUSED": str(number), "ASKED": "asked"}
@@ -179,7 +82,8 @@ def run(command: pathlib.Path, library: str, plan: Plan, number: int, saves: boo
             return 0, Came(f"none within {SECONDS} s", "", "", None, None, None, [])
         asked = int.from_bytes(program.read("asked") or b"", sys.byteorder)
         names = sorted(path.name for path in program.folder.iterdir() if path.name != "asked" and not path.is_dir())
-        return asked, Came(*ended, program.read("kept"), program.read("said"), program.read("story"), names)
+        story = program.read(plan.story) if plan.story else None
+        return asked, Came(*ended, program.read("kept"), program.read("said"), story, names)
 
 
 def is_cut_off(plan: Plan, came: Came, whole: Came) -> bool:
@@ -189,10 +93,10 @@ def is_cut_off(plan: Plan, came: Came, whole: Came) -> bool:
         and came.told.endswith(NO_MEMORY)
         and whole.told.startswith(came.told[: -len(NO_MEMORY)])
         and whole.shown.startswith(came.shown)
-        and came.kept in (plan.old, whole.kept)
+        and came.kept in (plan.before.get("kept"), whole.kept)
         and came.said is not None
         and (came.said == OLD_SCRIPT or (whole.said or b"").startswith(came.said))
-        and came.story == plan.story
+        and came.story == plan.before.get(plan.story)
         and set(came.names) <= set(whole.names)
     )
 
@@ -231,7 +135,8 @@ def wrong_from_the_start(plan: Plan, asked: int, whole: Came, unsaved: Came) -> 
     """What is wrong with the runs to compare with, if something is."""
     if whole.status != plan.status or not asked:
         return f"with memory: status {whole.status}, {asked} allocations, {whole.told[-200:]!r}"
-    if plan.words.startswith("play --save kept") and (whole.kept in (None, plan.old) or unsaved.kept != plan.old):
+    old = plan.before.get("kept")
+    if "kept" in plan.words and (whole.kept in (None, old) or unsaved.kept != old):
         return "a save does not go as it should with memory"
     return None
 
@@ -273,10 +178,10 @@ def main() -> None:
         print("left out, as the program is static: the runs with refused memory")
         return
     with tempfile.TemporaryDirectory() as place:
-        library = preloaded(PRELOADED, pathlib.Path(place))
+        library = preloaded("refused_memory.c", pathlib.Path(place))
         counts: Counter[str] = Counter()
         with concurrent.futures.ThreadPoolExecutor(os.cpu_count()) as pool:
-            for plan in plans():
+            for plan in [Plan(it, words) for _, runs in BOOK.cases for it in runs for words in it.words]:
                 check_plan(pool, functools.partial(run, command, library), plan, counts, verbose)
     if counts["left_out"]:
         print(f"left out of runs with more than {MOST:,} allocations: {counts['left_out']:,}")

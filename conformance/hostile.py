@@ -27,6 +27,9 @@ NESTED = 0xA00
 TEXTS = 0x1000
 STATIC = 0xFFE0
 
+# Bytes at an address.
+Piece = tuple[int, bytes]
+
 # Where text can go, by the instructions that see to it.
 PLACES = {
     "screen": b"",
@@ -45,16 +48,6 @@ SAYINGS = {
 }
 
 
-def put(data: bytearray, at: int, some: bytes) -> None:
-    """Puts bytes at an address."""
-    data[at:at + len(some)] = some
-
-
-def put_abbreviations(data: bytearray, address: int, step: int = 0) -> None:
-    """Gives all abbreviations the text at an address, or each one so many bytes behind the one before."""
-    put(data, ABBREVIATIONS, words_of((address + number * step) // 2 for number in range(96)))
-
-
 def words_of(words: Iterable[int]) -> bytes:
     """Words as the story has them."""
     return b"".join(word.to_bytes(2, "big") for word in words)
@@ -68,14 +61,19 @@ def text_of(characters: tuple[int, ...], count: int) -> bytes:
     return words_of(words)
 
 
-def story(version: int, code: bytes) -> bytearray:
-    """A story of the greatest length that runs some code and ends, with nothing else in it."""
+def abbreviations(address: int, step: int = 0) -> Piece:
+    """All abbreviations with the text at an address, or each one with that so many bytes behind the one before."""
+    return ABBREVIATIONS, words_of((address + number * step) // 2 for number in range(96))
+
+
+def story(version: int, code: bytes, *pieces: Piece) -> bytes:
+    """A story of the greatest length that runs some code and ends, with nothing else in it but some pieces."""
     data = bytearray(LENGTHS[version])
-    data[0] = version
-    put(data, 4, words_of((0xFFFE, CODE, OBJECTS, OBJECTS, GLOBALS, STATIC)))
-    put(data, 24, words_of([ABBREVIATIONS]))
-    put(data, CODE, code + b"\xba")
-    return data
+    header = words_of((0xFFFE, CODE, OBJECTS, OBJECTS, GLOBALS, STATIC))
+    own = ((0, bytes([version])), (4, header), (24, words_of([ABBREVIATIONS])), (CODE, code + b"\xba"))
+    for at, some in (*own, *pieces):
+        data[at:at + len(some)] = some
+    return bytes(data)
 
 
 def printing(version: int, place: str, address: int) -> bytes:
@@ -86,55 +84,43 @@ def printing(version: int, place: str, address: int) -> bytes:
 def long_text(version: int, place: str, saying: str) -> bytes:
     """A text of half the story's length, all of it abbreviations, whose text has the other half."""
     middle = LENGTHS[version] // 2
-    data = story(version, printing(version, place, middle))
-    put_abbreviations(data, TEXTS)
-    put(data, TEXTS, text_of(SAYINGS[saying], (middle - TEXTS) // 2))
-    put(data, middle, text_of((1, 0), (LENGTHS[version] - middle) // 2))
-    return bytes(data)
+    first = text_of(SAYINGS[saying], (middle - TEXTS) // 2)
+    second = text_of((1, 0), (LENGTHS[version] - middle) // 2)
+    return story(version, printing(version, place, middle), abbreviations(TEXTS), (TEXTS, first), (middle, second))
 
 
 def long_check(version: int, saying: str) -> bytes:
     """A text of all abbreviations: 95 are as long as the story, and the last names another, so that none is shown."""
-    data = story(version, printing(version, "screen", TABLE))
-    put_abbreviations(data, TEXTS, 2)
-    put(data, ABBREVIATIONS + 2 * 95, words_of([NESTED // 2]))
     names = [part for number in range(96) for part in (number // 32 + 1, number % 32)]
-    put(data, NESTED, text_of((1, 6, 6), 1))
-    put(data, TEXTS, text_of(SAYINGS[saying], (LENGTHS[version] - TEXTS) // 2))
-    put(data, TABLE, text_of(tuple(names), 64))
-    return bytes(data)
+    long = (TEXTS, text_of(SAYINGS[saying], (LENGTHS[version] - TEXTS) // 2))
+    last = ((ABBREVIATIONS + 2 * 95, words_of([NESTED // 2])), (NESTED, text_of((1, 6, 6), 1)))
+    code, uses = printing(version, "screen", TABLE), (TABLE, text_of(tuple(names), 64))
+    return story(version, code, abbreviations(TEXTS, 2), *last, long, uses)
 
 
 def long_rows(version: int, place: str) -> bytes:
     """As many and as long rows of `print_table` as there may be, one over the other."""
     width = 60_000
     operands = words_of((TEXTS, width, 65_535, 65_536 - width))
-    data = story(version, PLACES[place] + bytes.fromhex("fe00") + operands)
-    put(data, TEXTS, b"x" * (STATIC - TEXTS))
-    return bytes(data)
+    return story(version, PLACES[place] + bytes.fromhex("fe00") + operands, (TEXTS, b"x" * (STATIC - TEXTS)))
 
 
 def long_names(version: int, saying: str) -> bytes:
     """Objects with a name of 255 words of abbreviations as long as the story. The first is in the status line."""
-    data = story(version, b"")
-    put_abbreviations(data, TEXTS)
     first, length, pointer = (62, 9, 7) if version == 3 else (126, 14, 12)
-    put(data, GLOBALS, words_of([1]))
-    for at in range(OBJECTS + first, CODE - length + 1, length):
-        put(data, at + pointer, words_of([TABLE]))
-    put(data, TABLE, b"\xff" + text_of((1, 0), 255))
-    put(data, TEXTS, text_of(SAYINGS[saying], (LENGTHS[version] - TEXTS) // 2))
-    return bytes(data)
+    names = [(at + pointer, words_of([TABLE])) for at in range(OBJECTS + first, CODE - length + 1, length)]
+    text = (TEXTS, text_of(SAYINGS[saying], (LENGTHS[version] - TEXTS) // 2))
+    name = (TABLE, b"\xff" + text_of((1, 0), 255))
+    return story(version, b"", abbreviations(TEXTS), (GLOBALS, words_of([1])), *names, name, text)
 
 
 def long_print(version: int, saying: str) -> bytes:
     """Code that prints a text of all abbreviations, whose text has half the story's length or more."""
     # a word names no address further on
     middle = min(LENGTHS[version] // 2, 2 * 0xFFFF)
-    data = story(version, b"\xb2" + text_of((1, 0), (middle - CODE) // 2 - 1))
-    put_abbreviations(data, middle)
-    put(data, middle, text_of(SAYINGS[saying], (LENGTHS[version] - middle) // 2))
-    return bytes(data)
+    code = b"\xb2" + text_of((1, 0), (middle - CODE) // 2 - 1)
+    text = text_of(SAYINGS[saying], (LENGTHS[version] - middle) // 2)
+    return story(version, code, abbreviations(middle), (middle, text))
 
 
 def all_stories() -> dict[str, bytes]:

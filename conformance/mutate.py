@@ -20,12 +20,12 @@ import pathlib
 import re
 import shutil
 import signal
-import subprocess
 import sys
 import tempfile
 import time
 from collections.abc import Callable, Iterable
 from dataclasses import dataclass, field
+from subprocess import DEVNULL, PIPE, Popen
 from typing import IO, NamedTuple, NoReturn, Optional
 
 import run
@@ -33,7 +33,7 @@ import test
 from edits import BadEdit, Edit, edited, must_fail, mutants, refused, why_not
 from sources import FOLDER, TOP, crates, functions_of
 
-RUNNING: list[subprocess.Popen[str]] = []  # the builds that this script has begun
+RUNNING: list[Popen[str]] = []  # the builds that this script has begun
 TEMPORARY: list[str] = []  # the folders that it has made
 # Enough for all rows that do not end at a limit, and fewer than `zkit play` has, which shortens a run.
 WORDS, STEPS = 1100, 60_000
@@ -43,21 +43,8 @@ SHORTER = (("zk_fast/src/cache.rt", "SLOTS: usize = 8_192", "SLOTS: usize = 512"
 LONGER = 5
 NO_ANSWER = "no answer"
 
-TURNING = """// Which mutant is on.
-
-unsafe extern "C" {
-    pub safe fn turn_to(number: u32);
-    pub safe fn turned() -> u32;
-}
-"""
 # What a test asks of the runtime. Outside of tests the runtime has `Abort` in the program's `main` alone.
 TEST_RUNTIME = "impl std::process::Abort + AllocGlobal + Copy"
-
-TURNING_C = """static unsigned number;
-void turn_to(unsigned wanted) { number = wanted; }
-unsigned turned(void) { return number; }
-"""
-
 
 # What refuses each edit that was tried, by its number, and None where nothing does.
 Outcomes = dict[int, Optional[str]]
@@ -75,17 +62,6 @@ class Way(NamedTuple):
     seconds: int
     first: str
     tell: Tell
-
-
-class Options:
-    """What the command line says."""
-
-    v: bool
-    only: list[str] | None
-    first: str
-    jobs: int
-    seconds: int
-    check: bool
 
 
 # Which edits are mutants.
@@ -292,10 +268,10 @@ def write_copy(folder: pathlib.Path, edits: list[Edit]) -> None:
     lines.append(f"player: turning anyhow {' '.join(uses)}")
     (folder / "crates.txt").write_text("\n".join(lines) + "\n", encoding="utf-8")
     (folder / ".git").mkdir()
-    for name, text in (("turning/src/lib.rt", TURNING), ("turning/c/turning.c", TURNING_C)):
+    for kept, name in (("turning.rt.in", "turning/src/lib.rt"), ("turning.c", "turning/c/turning.c")):
         path = folder / "crates" / name
         path.parent.mkdir(parents=True)
-        path.write_text(text, encoding="utf-8")
+        shutil.copy(FOLDER / kept, path)
     test.add_tests(folder / "crates")
     test.shorten(folder / "crates", SHORTER)
     program = folder / "crates/zkit/src/main.rt"
@@ -332,20 +308,7 @@ def tests_of(folder: pathlib.Path, crates: Iterable[str], changed: set[str]) -> 
         for name, gives in re.findall(heads, texts[path], re.M):
             calls += f'    eprintln!(rt; "test {crate} {name}")?;\n'
             calls += f"    {crate}::{path.stem}::{name}(rt){'?' if gives else ''};\n"
-    return f"""use std::process::{{ExitCode, Termination}};
-use std::io::Eprint;
-use std::test::Fail;
-
-fn run(rt: {TEST_RUNTIME} + Eprint) -> Result<(), Fail> {{
-{calls}    eprintln!(rt; "tests passed")?;
-    Ok(())
-}}
-
-pub fn pass(rt: {TEST_RUNTIME} + Eprint) -> bool {{
-    let code = run(rt).report(&rt);
-    code == ExitCode::SUCCESS
-}}
-"""
+    return (FOLDER / "player_tests.rt.in").read_text(encoding="utf-8").replace("    // the tests\n", calls)
 
 
 class Copy:
@@ -415,11 +378,6 @@ def limits_for(row: run.Row) -> tuple[int, int]:
     return (0, 0) if row.end.startswith("limit") else (WORDS, STEPS)
 
 
-def is_slow(row: run.Row, version: int) -> bool:
-    """Whether a row takes long: it ends at a limit, or its story goes on past address 65535."""
-    return row.end.startswith("limit") or len(run.story(row, version)) > 0x10000
-
-
 def write_bundles(folder: pathlib.Path, first: str) -> None:
     """Writes the files `rows` and `slow`, which the player reads; rows whose place has some words come first."""
     bundles: dict[str, list[bytes]] = {"rows": [], "slow": []}
@@ -430,8 +388,9 @@ def write_bundles(folder: pathlib.Path, first: str) -> None:
         for row in rows:
             # One version is enough of a row that ends at a limit.
             if version == row.versions[0] or version in row.versions and not row.end.startswith("limit"):
-                name = "slow" if is_slow(row, version) else "rows"
-                bundles[name].append(bundled(row, version))
+                # A row takes long that ends at a limit, or whose story goes on past address 65535.
+                is_slow = row.end.startswith("limit") or len(run.story(row, version)) > 0x10000
+                bundles["slow" if is_slow else "rows"].append(bundled(row, version))
     for name, parts in bundles.items():
         (folder / name).write_bytes(b"".join(parts))
 
@@ -453,20 +412,13 @@ def refused_by(shown: str, said: str, ended: str) -> str | None:
     return f"row, by {ended}"
 
 
-def begin(copy: pathlib.Path, folder: pathlib.Path, shown: IO[bytes], way: Way) -> subprocess.Popen[str]:
+def begin(copy: pathlib.Path, folder: pathlib.Path, shown: IO[bytes], way: Way) -> Popen[str]:
     """Builds a copy's player, and begins to run it for each case of a folder."""
     words = ["rt", "try", "--steps", "1", "--seconds", str(way.seconds), "--cases", str(folder / "cases")]
     for name in ("rows", "slow"):
         words += ["--data", f"{name}={folder.parent / name}"]
-    program = subprocess.Popen(
-        words,
-        cwd=copy / "crates/player",
-        stdin=subprocess.DEVNULL,
-        stdout=shown,
-        stderr=subprocess.PIPE,
-        env={**os.environ, "RT_ALLOW_C": "1"},
-        errors="replace",
-    )
+    place, env = copy / "crates/player", {**os.environ, "RT_ALLOW_C": "1"}
+    program = Popen(words, cwd=place, env=env, stdin=DEVNULL, stdout=shown, stderr=PIPE, errors="replace")
     RUNNING.append(program)
     return program
 
@@ -596,7 +548,7 @@ def stop(message: str) -> NoReturn:
     end_all(2)
 
 
-def read_words() -> tuple[Options, list[Edit]]:
+def read_words() -> tuple[argparse.Namespace, list[Edit]]:
     """What the command line says, and the edits that it asks for."""
     words = argparse.ArgumentParser(prog="conformance/mutate.py", description=__doc__.split("\n")[0])
     words.add_argument("-v", action="store_true", help="name for each edit what refuses it")
@@ -605,7 +557,7 @@ def read_words() -> tuple[Options, list[Edit]]:
     words.add_argument("--jobs", type=int, default=2, help="how many builds run side by side")
     words.add_argument("--seconds", type=int, default=60, help="how long a run may take")
     words.add_argument("--check", action="store_true", help="try nothing: tell which edits do not apply any more")
-    options = words.parse_args(namespace=Options())
+    options = words.parse_args()
     found = read_edits(options.only or [])
     if not found:
         words.error("no edit has these words")

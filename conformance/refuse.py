@@ -22,7 +22,7 @@ from collections import Counter
 from collections.abc import Iterable
 
 from edits import Edit, must_fail, refused, why_not
-from sources import TOP, copy_of, crates
+from sources import TOP, begin_rt, copy_of, crates
 
 # The parts of a crate that its proof reads.
 PARTS = ("src", "specs", "proofs")
@@ -36,15 +36,6 @@ VERDICTS = (
     (": NOT TRIED", "not tried"),
 )
 WELL = ("refused", "refused by a limit alone")
-
-
-class Options:
-    """What the command line says."""
-
-    crates: list[str]
-    changed: str | None
-    sample: int | None
-    into: pathlib.Path | None
 
 
 def git(*words: str) -> str:
@@ -117,15 +108,7 @@ def tried(edits: list[Edit]) -> Counter[str]:
     with tempfile.TemporaryDirectory(prefix="refuse-") as folder:
         copy_of(pathlib.Path(folder))
         lay(edits, pathlib.Path(folder))
-        with subprocess.Popen(
-            ["rt", "must-fail", *sorted({it.crate for it in edits})],
-            cwd=folder,
-            stdin=subprocess.DEVNULL,
-            stdout=subprocess.PIPE,
-            stderr=subprocess.STDOUT,
-            text=True,
-            errors="replace",
-        ) as ran:
+        with begin_rt(["must-fail", *sorted({it.crate for it in edits})], pathlib.Path(folder)) as ran:
             for line in ran.stdout or ():
                 verdict = next((name for words, name in VERDICTS if words in line), None)
                 if verdict:
@@ -134,7 +117,7 @@ def tried(edits: list[Edit]) -> Counter[str]:
     return counts
 
 
-def read_options() -> Options:
+def read_options() -> argparse.Namespace:
     """What the command line says."""
     words = argparse.ArgumentParser(prog="conformance/refuse.py", description=__doc__.split("\n")[0])
     words.add_argument("crates", nargs="*", metavar="CRATE", help="only edits of these crates")
@@ -143,7 +126,7 @@ def read_options() -> Options:
     words.add_argument("--sample", type=int, metavar="N", help="only so many, chosen by the commit")
     into = "try nothing: lay them into the repository there, and print where they lie"
     words.add_argument("--into", type=pathlib.Path, metavar="FOLDER", help=into)
-    return words.parse_args(namespace=Options())
+    return words.parse_args()
 
 
 def main() -> int:

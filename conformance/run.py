@@ -1,9 +1,11 @@
 #!/usr/bin/env python3
 """Plays the rows of this folder with an interpreter, and tells which of them agree.
 
-usage: conformance/run.py [-v] [--screen-only] [--only WORDS] COMMAND...
+usage: conformance/run.py [-v] [--screen-only] [--writable-code] [--only WORDS] COMMAND...
+       conformance/run.py --write FOLDER
 
-Each row is played by `COMMAND STORY`, for each of its versions. README.md describes the rows.
+Each row is played by `COMMAND STORY`, for each of its versions. --write plays nothing: it writes the stories and inputs
+of all rows, and a list of these plays with what is wanted of them, rows.json. README.md describes the rows.
 """
 
 from __future__ import annotations
@@ -11,6 +13,7 @@ from __future__ import annotations
 import argparse
 import collections
 import concurrent.futures
+import json
 import os
 import pathlib
 import re
@@ -70,6 +73,7 @@ class Row:
     screen: str = ""
     script: str | None = None  # what the transcript gets, where the row says it
     end: str = ""
+    assembly: list[str] = field(default_factory=list)  # the comments of its bytes
     said: set[str] = field(default_factory=set)  # the words of its lines
 
     def ended(self) -> tuple[int, str]:
@@ -87,16 +91,6 @@ class Row:
         if self.undo is not None:
             words += ["--undo", str(self.undo)]
         return words
-
-
-class Options:
-    """What the command line says."""
-
-    v: bool
-    screen_only: bool
-    writable_code: bool
-    only: str
-    command: list[str]
 
 
 class Seen(NamedTuple):
@@ -127,10 +121,10 @@ class BadRow(Exception):
 
 
 def unquote(text: str) -> bytes:
-    """The bytes of a text in double quotes: UTF-8, with a new line as \\n and any byte as \\x and two digits."""
+    """The bytes of a text in double quotes: UTF-8, \\n for a new line, \\t for a tab, \\x and digits for others."""
     if len(text) < 2 or text[0] != '"' or text[-1] != '"':
         raise BadRow("a screen, a transcript or an input is a text in double quotes")
-    signs = {"n": b"\n", '"': b'"', "\\": b"\\"}
+    signs = {"n": b"\n", "t": b"\t", '"': b'"', "\\": b"\\"}
     plain, *others = re.split(r"\\(x[0-9A-Fa-f]{2}|.)", text[1:-1])
     made = plain.encode()
     for sign, plain in zip(others[::2], others[1::2]):
@@ -190,8 +184,10 @@ def read_rows(path: pathlib.Path) -> list[Row]:
             continue
         if word not in ("input", "screen", "script"):
             # What follows a semicolon is a comment.
-            stripped = stripped.partition(";")[0].strip()
-            word, _, rest = stripped.partition(" ")
+            stripped, _, comment = stripped.partition(";")
+            word, _, rest = stripped.strip().partition(" ")
+            if line[0].isspace():
+                rows[-1].assembly.append(comment.strip())
         try:
             read_line(rows[-1], word, rest.strip())
         except (BadRow, ValueError, KeyError, IndexError) as error:
@@ -254,13 +250,34 @@ def story(row: Row, version: int, writable_code: bool = False) -> bytes:
     return bytes(image)
 
 
+def write(row: Row, version: int, writable: bool, number: int, folder: pathlib.Path) -> dict[str, object]:
+    """Writes the files of a play, and answers what rows.json has of it: its files and options, and what is wanted."""
+    made, lines = f"row-{number}.story", f"row-{number}.input"
+    (folder / made).write_bytes(story(row, version, writable))
+    (folder / lines).write_bytes(row.input)
+    name = f"{row.place} {row.name} (version {version}{', writable code' if writable else ''})"
+    options: dict[str, object] = {"upper": row.upper}
+    if row.undo is not None:
+        options["undo"] = row.undo
+    status, line = row.ended()
+    wanted = {"screen": row.screen, "script": row.script, "status": status, "line": line}
+    return {"name": name, "story": made, "input": lines, "save": row.save, "options": options, **wanted}
+
+
+def write_all(folder: pathlib.Path) -> None:
+    """Writes the plays of all rows in both of their ways, so that one process can play them all."""
+    ways = [(row, it, writable) for _, row in all_rows() for it in row.versions for writable in (False, True)]
+    plays = [write(*way, number, folder) for number, way in enumerate(ways)]
+    (folder / "rows.json").write_text(json.dumps(plays), encoding="utf-8")
+
+
 def tidy(text: str) -> str:
     """A screen without what terminals add: spaces at a line's end, empty lines at both ends, status lines."""
     lines = "\n".join(line.rstrip() for line in text.split("\n"))
     return STATUS_LINE.sub("", lines).strip("\n")
 
 
-def play(row: Row, version: int, options: Options, folder: str) -> Played:
+def play(row: Row, version: int, options: argparse.Namespace, folder: str) -> Played:
     """Plays a row in a folder of its own, and answers what came of it."""
     with tempfile.TemporaryDirectory(dir=folder) as place:
         path = os.path.join(place, f"{row.place.replace(':', '-')}.z{version}")
@@ -301,7 +318,7 @@ def table(title: str, counts: Counts) -> None:
         print("{:24}  {:5}  {:6}  {:7}  {:4}".format(chapter, *numbers))
 
 
-def read_options() -> Options:
+def read_options() -> argparse.Namespace:
     """What the command line says."""
     words = argparse.ArgumentParser(prog="conformance/run.py", description=__doc__.split("\n")[0])
     words.add_argument("-v", action="store_true", help="name each row that differs")
@@ -310,8 +327,11 @@ def read_options() -> Options:
     writable = "raise the static base to the story's end, in rows that do not name it"
     words.add_argument("--writable-code", action="store_true", help=writable)
     words.add_argument("--only", default="", help="play only rows whose name or file has these words")
+    words.add_argument("--write", type=pathlib.Path, metavar="FOLDER", help="play nothing: write the rows as files")
     words.add_argument("command", nargs=argparse.REMAINDER, metavar="COMMAND", help="the interpreter")
-    options = words.parse_args(namespace=Options())
+    options = words.parse_args()
+    if options.write:
+        return options
     if not options.command:
         words.error("the interpreter's command is missing")
     if not shutil.which(options.command[0]):
@@ -319,7 +339,7 @@ def read_options() -> Options:
     return options
 
 
-def play_all(rows: list[tuple[str, Row]], options: Options) -> tuple[Counts, Counts]:
+def play_all(rows: list[tuple[str, Row]], options: argparse.Namespace) -> tuple[Counts, Counts]:
     """Plays rows, each with its chapter, names those that differ where that is asked for, and counts them.
 
     Those by the Standard are counted apart from those on choices.
@@ -344,6 +364,9 @@ def play_all(rows: list[tuple[str, Row]], options: Options) -> tuple[Counts, Cou
 def main() -> None:
     """Plays the rows that are asked for, and tells how many agree."""
     options = read_options()
+    if options.write:
+        write_all(options.write)
+        sys.exit(0)
     named = [(chapter, row) for chapter, row in all_rows() if options.only in f"{chapter} {row.name}"]
     plain_ones = [(chapter, row) for chapter, row in named if row.end == "quit" and not row.options("")]
     chosen = plain_ones if options.screen_only else named

@@ -79,12 +79,9 @@ def instructions(version: int) -> dict[str, bytes]:
 def story(version: int, place: bytes, saying: tuple[int, ...], prints: bytes) -> bytes:
     """A story that prints so, shows what a table has got then, reads a character and ends."""
     after = CLOSE + (LOWER if version > 3 else b"") + (ROWS if version >= 5 else b"") + (READ if version > 3 else b"")
-    data = hostile.story(version, place + prints + after)
-    hostile.put_abbreviations(data, hostile.TEXTS)
-    hostile.put(data, hostile.TEXTS, hostile.text_of(saying, WORDS))
-    hostile.put(data, TEXT, hostile.text_of((1, 0), USES))
-    hostile.put(data, ROUTINE, b"\0\xb3" + hostile.text_of((1, 0), USES))
-    return bytes(data)
+    text = hostile.text_of((1, 0), USES)
+    pieces = ((hostile.TEXTS, hostile.text_of(saying, WORDS)), (TEXT, text), (ROUTINE, b"\0\xb3" + text))
+    return hostile.story(version, place + prints + after, hostile.abbreviations(hostile.TEXTS), *pieces)
 
 
 def by_program(program: str, path: Path) -> tuple[bytes, bytes, str, int]:

@@ -1,6 +1,6 @@
 """The crates of the repository, and the functions of their sources.
 
-Sources are read by their lines, as `rt fmt` lays them out. `edits.py` and the scripts in `docs` stand on this.
+Sources are read by their lines, as `rt fmt` lays them out. `edits.py` and the scripts in `tools` stand on this.
 """
 
 from __future__ import annotations
@@ -10,6 +10,7 @@ import pathlib
 import re
 import shutil
 from collections.abc import Iterable, Iterator
+from subprocess import DEVNULL, PIPE, STDOUT, Popen
 from typing import NamedTuple
 
 FOLDER = pathlib.Path(__file__).resolve().parent
@@ -40,6 +41,11 @@ def copy_of(folder: pathlib.Path) -> None:
     for name in ("crates.txt", "HANDLES"):
         shutil.copyfile(TOP / name, folder / name)
     (folder / ".git").mkdir()
+
+
+def begin_rt(words: list[str], folder: pathlib.Path) -> Popen[str]:
+    """Begins a command of `rt` in a folder. All that it says is one text."""
+    return Popen(["rt", *words], cwd=folder, stdin=DEVNULL, stdout=PIPE, stderr=STDOUT, text=True, errors="replace")
 
 
 class Block(NamedTuple):

@@ -8,12 +8,11 @@ They are compiled with checks by `rt try --test`: each that fails is told, and t
 
 import pathlib
 import shutil
-import subprocess
 import sys
 import tempfile
 from collections.abc import Iterable
 
-from sources import FOLDER, copy_of
+from sources import FOLDER, begin_rt, copy_of
 
 SECONDS = 300
 # What is made shorter in a copy: how far a check looks for texts, as the stories of the tests are short.
@@ -49,16 +48,10 @@ def main() -> int:
         folder = pathlib.Path(name)
         copy_of(folder)
         add_tests(folder / "crates")
-        ran = subprocess.run(
-            ["rt", "try", "--test", "--steps", "1", "--seconds", str(SECONDS)],
-            cwd=folder / "crates/zk_tests",
-            stdin=subprocess.DEVNULL,
-            stdout=subprocess.PIPE,
-            stderr=subprocess.STDOUT,
-            text=True,
-            errors="replace",
-        )
-    print("\n".join(it for it in ran.stdout.splitlines() if not it.endswith("... ok")))
+        words = ["try", "--test", "--steps", "1", "--seconds", str(SECONDS)]
+        with begin_rt(words, folder / "crates/zk_tests") as ran:
+            said, _ = ran.communicate()
+    print("\n".join(it for it in said.splitlines() if not it.endswith("... ok")))
     return ran.returncode
 
 

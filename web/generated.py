@@ -4,8 +4,7 @@
 usage: generated.py FOLDER COUNT [FIRST]
 
 Story number n is the same each time: n.story and n.input, from FIRST on. Of four stories one is the game of examples
-with some bytes changed, two are stories of conformance with some bytes changed, and one is random code. To these comes
-long.z5, one instruction of which prints forty million letters.
+with some bytes changed, two are stories of conformance with some bytes changed, and one is random code.
 """
 
 from __future__ import annotations
@@ -16,16 +15,14 @@ import sys
 
 TOP = pathlib.Path(__file__).resolve().parent.parent
 sys.dont_write_bytecode = True
-sys.path[:0] = [str(TOP / "conformance"), str(TOP / "examples/embed")]
+sys.path.insert(0, str(TOP / "conformance"))
 
-import cases  # noqa: E402: these stand in the folders that were just named
-import large_stories  # noqa: E402
+import case_files  # noqa: E402: these stand in the folders that were just named
 import run  # noqa: E402
 
 EXAMPLES = TOP / "examples"
 VERSIONS = (3, 4, 5, 8)
 LENGTH, CODE = 0x1000, 0x40
-WORDS = 3000  # of the text in long.z5
 OBJECTS, GLOBALS, STATIC = 0x400, 0x600, 0x800
 LINES = [b"look", b"inventory", b"save", b"restore", b"undo", b"open the bag", b"north", b"a", b"", "Skærvø".encode()]
 
@@ -58,16 +55,11 @@ def row(rows: list[run.Row], dice: random.Random) -> tuple[bytes, bytes]:
 
 def code(dice: random.Random) -> tuple[bytes, bytes]:
     """A story of random bytes."""
-    story = cases.story(
-        dice.randbytes(LENGTH - CODE).hex(),
-        version=dice.choice(VERSIONS),
-        x06=dice.randrange(CODE, LENGTH),
-        x08=dice.randrange(CODE, LENGTH),
-        x0a=OBJECTS,
-        x0c=GLOBALS,
-        x0e=STATIC,
-    )
-    return story, b""
+    content, version = dice.randbytes(LENGTH - CODE), dice.choice(VERSIONS)
+    start, dictionary = (dice.randrange(CODE, LENGTH) for _ in range(2))
+    words = b"".join(it.to_bytes(2, "big") for it in (start, dictionary, OBJECTS, GLOBALS, STATIC))
+    header = case_files.header(version)
+    return header[:0x06] + words + header[0x06 + len(words):] + content, b""
 
 
 def made(number: int, rows: list[run.Row]) -> tuple[bytes, bytes]:
@@ -90,8 +82,6 @@ def main() -> int:
         story, lines = made(number, rows)
         (folder / f"{number}.story").write_bytes(story)
         (folder / f"{number}.input").write_bytes(lines)
-    large_stories.WORDS = WORDS
-    (folder / "long.z5").write_bytes(large_stories.gigabyte())
     return 0
 
 

@@ -4,8 +4,8 @@
 //
 // usage: web/tests.js MODULE PROGRAM FOLDER COUNT
 //
-// FOLDER has what rows.py, generated.py with COUNT and large_stories.py write and, where there is a C compiler, the
-// program kept.
+// FOLDER has what conformance/run.py --write and generated.py with COUNT write, the stories of
+// examples/embed/large.cases and, where there is a C compiler, the program kept.
 import { spawnSync } from "child_process";
 import fs from "fs";
 import path from "path";

@@ -1,7 +1,7 @@
 #!/usr/bin/env python3
 """Measures what it takes to prove each crate from nothing, and prints the table of docs/PROVING.md, or writes it there.
 
-usage: docs/gate_times.py [--write] [--jobs N]
+usage: tools/gate_times.py [--write] [--jobs N]
 
 Each crate is checked in a copy of the repository over nothing that was kept, by one job. How long a function takes is
 read off the files that the check leaves, by the times at which they were written.
@@ -20,7 +20,7 @@ import shutil
 import subprocess
 import sys
 import tempfile
-from typing import NamedTuple, Protocol, cast
+from typing import Any
 
 TOP = pathlib.Path(__file__).resolve().parent.parent
 sys.dont_write_bytecode = True
@@ -29,50 +29,19 @@ sys.path.append(str(TOP / "conformance"))
 import sources  # noqa: E402: it stands in the folder that was just named
 
 PAGE = TOP / "docs/PROVING.md"
-BEGIN, END = "<!-- the table of docs/gate_times.py begins -->\n", "<!-- the table of docs/gate_times.py ends -->\n"
+BEGIN, END = "<!-- the table of tools/gate_times.py begins -->\n", "<!-- the table of tools/gate_times.py ends -->\n"
 DEAREST = 3
+# A crate's row, and the seconds of a processor that it took.
+Measured = tuple[str, float]
 
 
-class Options:
-    """What the command line says."""
-
-    write: bool
-    jobs: int
-
-
-class Crate(Protocol):
-    """A crate, as the toolchain's module has it."""
-
-    name: str
-    folder: str
-    is_program: bool
-
-    def below(self) -> list[Crate]: ...
-    def words(self, flags: list[str], *, keeps: bool) -> list[str]: ...
-
-
-class Toolchain(Protocol):
-    """The toolchain's own module, which knows how it calls the prover."""
-
-    RATTLE: str
-
-    def crates_below(self, top: str) -> list[Crate]: ...
-
-
-class Measured(NamedTuple):
-    """A crate's row, and the seconds of a processor that it took."""
-
-    row: str
-    seconds: float
-
-
-def toolchain() -> Toolchain:
-    """The module, which stands beside the command `rt`."""
+def toolchain() -> Any:
+    """The toolchain's own module, which knows how it calls the prover and stands beside the command `rt`."""
     command = shutil.which("rt")
     if not command:
-        sys.exit("docs/gate_times.py: there is no command rt")
+        sys.exit("tools/gate_times.py: there is no command rt")
     sys.path.append(str(pathlib.Path(command).resolve().parent))
-    return cast(Toolchain, importlib.import_module("rtlib"))
+    return importlib.import_module("rtlib")
 
 
 def dearest(kept: pathlib.Path) -> list[tuple[str, float]]:
@@ -91,7 +60,7 @@ def dearest(kept: pathlib.Path) -> list[tuple[str, float]]:
     return sorted(seconds.items(), key=lambda it: it[1], reverse=True)[:DEAREST]
 
 
-def measure(rtlib: Toolchain, crate: Crate) -> Measured:
+def measure(rtlib: Any, crate: Any) -> Measured:
     """Checks a crate over nothing, and then builds it for those above."""
     kept = pathlib.Path(crate.folder) / "out/incremental"
     kept.mkdir(parents=True)
@@ -108,17 +77,17 @@ def measure(rtlib: Toolchain, crate: Crate) -> Measured:
         subprocess.run(["rt", "lib"], cwd=crate.folder, check=True, stdin=subprocess.DEVNULL, stdout=subprocess.DEVNULL)
     seconds: float = used.ru_utime + used.ru_stime
     told = ", ".join(f"`{it}` {round(time)}" for it, time in dearest(kept))
-    return Measured(f"| `{crate.name}` | {functions} | {round(seconds)} | {told} |", seconds)
+    return f"| `{crate.name}` | {functions} | {round(seconds)} | {told} |", seconds
 
 
-def measure_all(rtlib: Toolchain, crates: list[Crate], jobs: int) -> list[Measured]:
+def measure_all(rtlib: Any, crates: list[Any], jobs: int) -> list[Measured]:
     """Checks all crates, which come behind those below them, as many side by side as jobs."""
     rows: dict[str, concurrent.futures.Future[Measured]] = {}
 
-    def work(crate: Crate) -> Measured:
+    def work(crate: Any) -> Measured:
         concurrent.futures.wait([rows[it.name] for it in crate.below()])
         row = measure(rtlib, crate)
-        print(row.row, file=sys.stderr, flush=True)
+        print(row[0], file=sys.stderr, flush=True)
         return row
 
     with concurrent.futures.ThreadPoolExecutor(jobs) as pool:
@@ -130,16 +99,16 @@ def measure_all(rtlib: Toolchain, crates: list[Crate], jobs: int) -> list[Measur
 def table(rows: list[Measured]) -> str:
     """The table of the page."""
     head = "| Crate | Functions | Seconds of a processor | Dearest functions, in seconds |\n| --- | --- | --- | --- |\n"
-    total = round(sum(it.seconds for it in rows) / 60)
-    return head + "".join(f"{it.row}\n" for it in rows) + f"| all | | {total} minutes | |\n"
+    total = round(sum(seconds for _, seconds in rows) / 60)
+    return head + "".join(f"{row}\n" for row, _ in rows) + f"| all | | {total} minutes | |\n"
 
 
 def main() -> None:
     """Measures all crates, and prints or writes the table."""
-    words = argparse.ArgumentParser(prog="docs/gate_times.py", description=__doc__.split("\n")[0])
+    words = argparse.ArgumentParser(prog="tools/gate_times.py", description=__doc__.split("\n")[0])
     words.add_argument("--write", action="store_true", help="write the table into docs/PROVING.md")
     words.add_argument("--jobs", type=int, default=1, help="how many crates are checked side by side")
-    options = words.parse_args(namespace=Options())
+    options = words.parse_args()
     rtlib = toolchain()
     with tempfile.TemporaryDirectory(prefix="gate-times-") as name:
         sources.copy_of(pathlib.Path(name))

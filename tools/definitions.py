@@ -1,9 +1,9 @@
 #!/usr/bin/env python3
 """Tells what zkit says of a part of the Standard: its definitions, what carries and guards them, and the rows.
 
-usage: docs/definitions.py QUERY..    prints what there is on each query, and fails where there is nothing
-       docs/definitions.py            writes docs/DEFINITIONS.md, the table of all sections
-       docs/definitions.py --check    writes nothing, and fails where the page is not what it would write
+usage: tools/definitions.py QUERY..    prints what there is on each query, and fails where there is nothing
+       tools/definitions.py            writes docs/DEFINITIONS.md, the table of all sections
+       tools/definitions.py --check    writes nothing, and fails where the page is not what it would write
 
 A query is one of these:
 
@@ -36,28 +36,14 @@ TOP = Path(__file__).resolve().parent.parent
 sys.dont_write_bytecode = True
 sys.path.insert(0, str(TOP / "conformance"))
 
-from edits import Edit, must_fail, refused  # noqa: E402: these stand in the folder that was just named
+import run  # noqa: E402: these stand in the folder that was just named
+from edits import Edit, must_fail, refused  # noqa: E402
 from sources import blocks_of, crates, functions_of  # noqa: E402
 
 PAGE = TOP / "docs" / "DEFINITIONS.md"
+TEMPLATE = TOP / "tools" / "definitions.md.in"
 
-CHAPTERS = {
-    1: "The memory map",
-    2: "Numbers and arithmetic",
-    3: "How text and characters are encoded",
-    4: "How instructions are encoded",
-    5: "How routines are encoded",
-    6: "The game state",
-    7: "Output streams and file handling",
-    8: "The screen model",
-    9: "Sound effects",
-    10: "Input streams and devices",
-    11: "The format of the header",
-    12: "The object table",
-    13: "The dictionary and lexical analysis",
-    14: "Complete table of opcodes",
-    15: "Dictionary of opcodes",
-}
+CHAPTERS = dict(it.split(" ", 1) for it in (TOP / "tools" / "chapters.txt").read_text("utf-8").splitlines())
 
 KINDS = ("believed", "law", "example", "helper")
 EXAMPLES = "Examples"  # how the name of a file of examples ends
@@ -67,47 +53,6 @@ FILES = 3  # and how many files with its rows
 WIDTH = min(max(shutil.get_terminal_size((100, 24)).columns, 60), 100)  # of what a query prints
 FEW = 2  # of so many definitions a query prints all that carries and guards them, of more what a line holds
 MOST_ROWS = 40  # of those that only use an opcode; more are counted by file
-
-HEAD = """\
-# Definitions
-
-What zkit has on each section of the Z-Machine Standards Document 1.1, and of Quetzal 1.4: the definitions that its
-contracts cite, their examples, and rows of conformance. `docs/definitions.py` wrote this page from `crates/*/specs`,
-`crates/*/src` and `conformance/*.rows`: change those, run it, and leave the page alone. It also prints the rest:
-
-```
-docs/definitions.py 12.4           what there is on a section, with those inside it; 12 is a chapter
-docs/definitions.py print_paddr    on an opcode
-docs/definitions.py dictionary     on a word of a definition's name or meaning
-```
-
-Of each definition it prints the kind, the meaning, the file and the line, the public functions that carry it, the
-examples that cite it and the must-fail edits of functions whose contracts cite it; of each row its name and file.
-
-There are {all} definitions, of four kinds; {bare} of them name no section, and neither does their file.
-
-- **believed** ({believed}): a contract of a public function cites it, directly or through other definitions. Whoever
-  reads the promises has to believe that it says what the Standard says.
-- **law** ({law}): a proposition that a public function proves, of the believed ones.
-- **example** ({example}): a law of values that were worked out by hand, in a file of `specs` whose name ends with
-  `Examples`. It refuses a believed definition that is turned together with its body. What the examples work on is
-  none of these definitions.
-- **helper** ({helper}): the code's own. Contracts of private functions, the views and invariants of types, or proofs
-  alone cite it.
-
-The line of a chapter or section counts all that is inside it, and the examples apart from the other definitions. Each
-of these and each row counts in every section that it names; a definition that names none counts in those of its file.
-The main ones are believed: first those that name the section themselves, and of these those that the most public
-functions carry. Those of a chapter name it as a whole. `Map` of `zk_mem` is the file `crates/zk_mem/specs/Map.antt`,
-and `01-memory` is `conformance/01-memory.rows`; the files with the most rows come first.
-"""
-
-BARE_HEAD = """\
-## Sections without a row
-
-The sections with believed definitions that no row of conformance names, neither them nor a section inside them:
-"""
-
 
 # What tells definitions apart: a crate, a spec file of it, and a name.
 Key = tuple[str, str, str]
@@ -181,10 +126,6 @@ class Definition:
     def sections_in(self, standard: str, numbers: Numbers) -> list[Section]:
         """Its sections that lie in the one of these numbers, in order."""
         return sorted(it for it in self.sections if it.standard == standard and it.lies_in(numbers))
-
-    def lines_with(self, variants: set[str]) -> list[str]:
-        """Its lines that name one of some variants."""
-        return [line.strip(" ∷") for line in self.text.splitlines() if variants & words_of(line)]
 
     def names_any(self, names: set[str]) -> bool:
         """Whether its comment names one of some opcodes, in quotes or by its entry in chapter 15."""
@@ -308,15 +249,11 @@ def cited(text: str, names: Names, aliases: Aliases, bound: Iterable[str] = ()) 
         elif first in names and first not in bound and following != "=":
             keys.add(names[first])
     for name, key in names.items():
-        if "◌" in name and uses_operator(words, name):
+        parts = [part for part in name.split("◌") if part]
+        # the steps of a `do` are joined by `>>=`
+        if "◌" in name and (all(it in words for it in parts) or parts == [">>="] and "do" in words):
             keys.add(key)
     return keys
-
-
-def uses_operator(words: list[str], name: str) -> bool:
-    """Whether an operator stands among words. The steps of a `do` are joined by `>>=`."""
-    parts = [part for part in name.split("◌") if part]
-    return all(part in words for part in parts) or (parts == [">>="] and "do" in words)
 
 
 # ---- sections
@@ -607,17 +544,11 @@ def places_of(text: str) -> list[tuple[Numbers, str]]:
 
 def read_rows() -> list[Row]:
     """The rows of conformance, in the order of their files."""
-    rows: list[Row] = []
-    for path in sorted((TOP / "conformance").glob("*.rows")):
-        for number, line in enumerate(path.read_text("utf-8").splitlines(), 1):
-            word, _, rest = line.partition(" ")
-            used = re.match(r"\s[^;]*;\s*(?:\w+:\s+)?(\w+)", line)
-            if word == "row":
-                rows.append(Row(rest.strip(), path.stem, number, [], set()))
-            elif word == "section":
-                rows[-1].places.extend(places_of(rest.partition(";")[0].strip()))
-            elif used:
-                rows[-1].uses.add({"not1": "not", "notv": "not"}.get(used[1], used[1]))
+    rows = []
+    for chapter, row in run.all_rows():
+        found = [re.match(r"(?:\w+:\s+)?(\w+)", it) for it in row.assembly]
+        uses = {{"not1": "not", "notv": "not"}.get(it[1], it[1]) for it in found if it}
+        rows.append(Row(row.name, chapter, int(row.place.partition(":")[2]), places_of(row.section), uses))
     return rows
 
 
@@ -661,7 +592,7 @@ def on_section(query: str, book: Book) -> Answer:
         named = sorted({place for place in row.places if place[0][:len(numbers)] == numbers})
         if named:
             rows.append((", ".join(f"{written(numbers)} {word}".strip() for numbers, word in named), row))
-    title = f"{query}  {CHAPTERS.get(numbers[0], '')}".strip()
+    title = f"{query}  {CHAPTERS.get(str(numbers[0]), '')}".strip()
     return Answer(title, [(key[-1], found[key]) for key in sorted(found)], [("Rows of conformance", rows)])
 
 
@@ -675,7 +606,7 @@ def on_opcode(query: str, book: Book) -> Answer:
     cites: set[Key] = set()
     for definition in book.definitions:
         named = variants & definition.variants
-        quotes = definition.lines_with(named)
+        quotes = [line.strip(" ∷") for line in definition.text.splitlines() if named & words_of(line)]
         cited_there = [cites for left, cites in definition.equations if named & words_of(left)]
         if cited_there:
             meaning.append((definition, quotes))
@@ -718,12 +649,8 @@ def has_word(text: str, word: str) -> bool:
 
 def answer(query: str, book: Book) -> Answer | None:
     """What there is on a query, if there is anything."""
-    if re.fullmatch(NUMBER, query):
-        found = on_section(query, book)
-    elif any(opcode.name == query for opcode in book.opcodes):
-        found = on_opcode(query, book)
-    else:
-        found = on_word(query, book)
+    is_opcode = any(opcode.name == query for opcode in book.opcodes)
+    found = (on_section if re.fullmatch(NUMBER, query) else on_opcode if is_opcode else on_word)(query, book)
     is_there = any(entries for _, entries in found.definitions) or any(rows for _, rows in found.rows)
     return found if is_there else None
 
@@ -824,7 +751,7 @@ def table_line(standard: str, numbers: Numbers, book: Book) -> list[str]:
     rows = [row for row in book.rows if not standard and any(it[:len(numbers)] == numbers for it, _ in row.places)]
     label = f"{standard}, {written(numbers)}" if standard else written(numbers)
     if is_chapter:
-        label = f"**{label} {CHAPTERS.get(numbers[0], '')}**"
+        label = f"**{label} {CHAPTERS.get(str(numbers[0]), '')}**"
     examples = sum(definition.kind == "example" for definition, _ in here)
     files = [f"`{file}`" for file, _ in Counter(row.file for row in rows).most_common()]
     more = f", +{len(files) - FILES}" if len(files) > FILES else ""
@@ -870,19 +797,13 @@ def bare_lines(book: Book) -> list[str]:
     return ["- " + "; ".join(labels) for labels in chapters.values()]
 
 
-def table(titles: list[str], lines: list[list[str]]) -> str:
-    """A table in Markdown."""
-    return "\n".join("| " + " | ".join(line) + " |" for line in [titles, ["---"] * len(titles), *lines]) + "\n"
-
-
 def page(book: Book) -> str:
     """The whole page."""
     kinds = Counter(definition.kind for definition in book.definitions)
     bare = sum(not definition.sections for definition in book.definitions)
-    titles = ["Section", "Definitions", "Main ones", "Examples", "Rows", "Files"]
     lines = [table_line(standard, numbers, book) for standard, numbers in places(book)]
-    parts = [HEAD.format(all=len(book.definitions), bare=bare, **kinds), table(titles, lines), BARE_HEAD]
-    return "\n".join(parts + bare_lines(book)) + "\n"
+    parts = {"table": "\n".join(f"| {' | '.join(it)} |" for it in lines), "sections": "\n".join(bare_lines(book))}
+    return TEMPLATE.read_text("utf-8").format(all=len(book.definitions), bare=bare, **kinds, **parts)
 
 
 # ---- the script
@@ -910,7 +831,7 @@ def print_answers(queries: list[str], book: Book) -> int:
         print("\n\n".join("\n".join(answer_lines(found)) for found in answers if found))
     for query, found in zip(queries, answers):
         if not found:
-            print(f"docs/definitions.py: there is nothing on {query}", file=sys.stderr)
+            print(f"tools/definitions.py: there is nothing on {query}", file=sys.stderr)
     return 0 if all(answers) else 1
 
 
@@ -929,7 +850,7 @@ def main(words: list[str]) -> int:
     elif words != ["--check"]:
         return print_answers(words, book)
     elif not PAGE.exists() or PAGE.read_text("utf-8") != page(book):
-        print("docs/DEFINITIONS.md is not what docs/definitions.py writes: run it", file=sys.stderr)
+        print("docs/DEFINITIONS.md is not what tools/definitions.py writes: run it", file=sys.stderr)
         return 1
     return 0
 

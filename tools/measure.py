@@ -1,7 +1,7 @@
 #!/usr/bin/env python3
 """Measures how fast zkit plays stories beside two other interpreters, and prints one table.
 
-usage: docs/measure.py [--rounds N] [--count] [--zkit PATH] [--dfrotz PATH] [--bocfel PATH] [STORY | STORY:LINES]...
+usage: tools/measure.py [--rounds N] [--count] [--zkit PATH] [--dfrotz PATH] [--bocfel PATH] [STORY | STORY:LINES]...
 
 The others are dfrotz 2.55 and bocfel 2.5:
 
@@ -44,20 +44,9 @@ class Play(NamedTuple):
     typed: str
 
 
-class Options:
-    """What the command line says."""
-
-    rounds: int
-    count: bool
-    zkit: str | None
-    dfrotz: str | None
-    bocfel: str | None
-    plays: list[str]
-
-
 def fail(text: str) -> NoReturn:
     """Ends the script with what is wrong."""
-    sys.exit(f"docs/measure.py: {text}")
+    sys.exit(f"tools/measure.py: {text}")
 
 
 def command_of(name: str, given: str | None) -> list[str]:
@@ -108,15 +97,15 @@ def ratio(times: dict[str, float]) -> float:
     return times["zkit"] / min(time for name, time in times.items() if name != "zkit")
 
 
-def read_options() -> Options:
+def read_options() -> argparse.Namespace:
     """What the command line says."""
-    words = argparse.ArgumentParser(prog="docs/measure.py", description=__doc__.split("\n")[0])
+    words = argparse.ArgumentParser(prog="tools/measure.py", description=__doc__.split("\n")[0])
     words.add_argument("--rounds", type=int, default=9, metavar="N", help="how often each program plays each story; 9")
     words.add_argument("--count", action="store_true", help="count instructions of the processor too, by valgrind")
     for name in OPTIONS:
         words.add_argument(f"--{name}", metavar="PATH", help=f"the program {name}")
     words.add_argument("plays", nargs="*", metavar="STORY:LINES", help="a story, or a story and a file of lines")
-    options = words.parse_args(namespace=Options())
+    options = words.parse_args()
     if options.rounds < 1:
         fail("--rounds is at least 1")
     if options.count and not shutil.which("valgrind"):

@@ -1,7 +1,7 @@
 #!/usr/bin/env python3
 """Looks whether what docs/PROVED.md cites is there: each call and clause, each law and definition, each file.
 
-usage: docs/proved.py [--write]
+usage: tools/proved.py [--write]
 
 A row of a table of promises cites, in its second column, in parts that semicolons divide:
 
@@ -21,9 +21,11 @@ clauses that have one; and each public function with such a clause stands there.
 
 from __future__ import annotations
 
+import functools
 import re
 import sys
 from collections.abc import Iterator
+from dataclasses import dataclass, field
 from pathlib import Path
 
 from definitions import Definition, Function, read_sources, read_specs
@@ -53,26 +55,25 @@ def names_in(text: str) -> list[str]:
     return re.findall(r"`([^`]+)`", text)
 
 
+@functools.cache
+def text_of(file: str) -> str | None:
+    """The text of a file, or nothing where there is none."""
+    path = TOP / "crates" / file
+    return path.read_text("utf-8") if path.is_file() else None
+
+
 class Book:
-    """What is there: functions and definitions by their files, and the texts of the files."""
+    """What is there: functions and definitions by their files."""
 
     def __init__(self) -> None:
         self.functions: dict[str, list[Function]] = {}
         self.specs: dict[str, dict[str, Definition]] = {}
-        self.texts: dict[str, str | None] = {}
         for crate in crates():
             for function in read_sources(crate, {}):
                 if not function.is_ghost:
                     self.functions.setdefault(f"{crate}/src/{function.file}", []).append(function)
         for path, made in read_specs():
             self.specs[str(path.relative_to(TOP / "crates"))] = {it.name: it for it in made}
-
-    def text(self, file: str) -> str | None:
-        """The text of a file, or nothing where there is none."""
-        if file not in self.texts:
-            path = TOP / "crates" / file
-            self.texts[file] = path.read_text("utf-8") if path.is_file() else None
-        return self.texts[file]
 
     def calls(self, name: str, files: list[str]) -> list[tuple[str, Function]]:
         """The functions of a name, with its type or without one, in files, each with its file."""
@@ -81,17 +82,17 @@ class Book:
         return [it for it in named if it[1].owner == owner] or [it for it in named if it[1].trait == owner]
 
 
+@dataclass
 class Row:
     """A row whose citations are looked for. It notes which of its files have one."""
 
-    def __init__(self, book: Book, number: int, files: list[str], complaints: list[str], moves: bool) -> None:
-        self.book = book
-        self.number = number
-        self.files = files
-        self.moves = moves
-        self.used: set[str] = set()
-        self.complaints = complaints
-        self.owner = ""
+    book: Book
+    number: int
+    files: list[str]
+    complaints: list[str]
+    moves: bool
+    used: set[str] = field(default_factory=set)
+    owner: str = ""
 
     def complain(self, words: str) -> None:
         """Notes what is wrong with it."""
@@ -149,9 +150,9 @@ class Row:
             for call in calls:
                 if [kind for kind, _ in call.clauses].count("ensures") != 1:
                     self.complain(f"`{name}` has not one clause alone")
-            for field in names_in(fields):
-                if not any(re.search(rf"^\s+pub {re.escape(field)} :", it.text, re.M) for it in found):
-                    self.complain(f"`{name}` has no field `{field}`")
+            for own in names_in(fields):
+                if not any(re.search(rf"^\s+pub {re.escape(own)} :", it.text, re.M) for it in found):
+                    self.complain(f"`{name}` has no field `{own}`")
 
     def look_for_implementations(self, part: str) -> None:
         """Looks for implementations with ghost items."""
@@ -159,7 +160,7 @@ class Row:
         for name in names_in(said):
             words = re.escape(name.removeprefix("impl "))
             pattern = re.compile(rf"^impl(?:<[^{{]*>)? {words}\b.*?^}}", re.M | re.S)
-            found = {file: pattern.search(self.book.text(file) or "") for file in self.files}
+            found = {file: pattern.search(text_of(file) or "") for file in self.files}
             blocks = [block[0] for block in found.values() if block]
             self.used.update(file for file, block in found.items() if block)
             if not blocks:
@@ -178,7 +179,7 @@ class Row:
     def look_for_files(self) -> None:
         """Looks whether the files are there, and whether a name was found in each; moves leave such files out."""
         for file in [] if self.moves else self.files:
-            if self.book.text(file) is None:
+            if text_of(file) is None:
                 self.complain(f"no file {file}")
             elif file not in self.used:
                 self.complain(f"{file} has none of the names")
@@ -221,11 +222,6 @@ def look_at_duty(row: Row, called: str) -> list[Function]:
     return calls
 
 
-def with_files(line: str, cell: str, files: list[str]) -> str:
-    """A row with its files in place of those that it has."""
-    return line.removesuffix(f"{cell} |") + ", ".join(f"`{it}`" for it in files) + " |"
-
-
 def main() -> int:
     """Looks at all rows, and answers 1 where something is wrong."""
     moves = sys.argv[1:] == ["--write"]
@@ -245,7 +241,8 @@ def main() -> int:
         else:
             listed.extend(look_at_duty(row, cells[0]))
         if moves:
-            lines[number - 1] = with_files(lines[number - 1], cells[2], [it for it in row.files if it in row.used])
+            files = ", ".join(f"`{it}`" for it in row.files if it in row.used)
+            lines[number - 1] = f"{lines[number - 1].removesuffix(f'{cells[2]} |')}{files} |"
     for file, functions in book.functions.items():
         for function in functions:
             if function.public and wanted_by(function) and function not in listed:

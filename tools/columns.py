@@ -1,8 +1,8 @@
 #!/usr/bin/env python3
 """Looks whether lines have at most 120 columns: those of pages, tables and what stands between fences apart, of the
-crates, and of the C, the JavaScript and the Python.
+crates, of the C, the JavaScript and the Python, and of files of cases.
 
-usage: docs/columns.py
+usage: tools/columns.py
 
 It tells each longer one, and the status is then 1.
 """
@@ -15,9 +15,8 @@ from pathlib import Path
 
 TOP = Path(__file__).resolve().parent.parent
 MOST = 120
-FOLDERS = ("conformance", "docs", "examples", "include", "library", "linux", "web", *(
-    f"crates/{it.parent.name}/{it.name}" for part in ("src", "specs", "proofs") for it in TOP.glob(f"crates/*/{part}")))
-PATTERNS = ("*.md", "*.c", "*.h", "*.js", "*.py", "*.rt", "*.antt")
+BUILT = {"out", ".git"}
+KINDS = {".md", ".c", ".h", ".js", ".py", ".rt", ".antt", ".cases"}
 
 
 def prose(text: str) -> Iterator[tuple[int, str]]:
@@ -32,8 +31,8 @@ def prose(text: str) -> Iterator[tuple[int, str]]:
 
 def main() -> int:
     """Tells the lines that are too long."""
-    paths = [*TOP.glob("*.md"), *(path for folder in FOLDERS for it in PATTERNS for path in (TOP / folder).rglob(it))]
     status = 0
+    paths = [it for it in TOP.rglob("*") if it.suffix in KINDS and not BUILT & {*it.relative_to(TOP).parts}]
     for path in sorted(paths):
         text = path.read_text("utf-8")
         for number, line in prose(text) if path.suffix == ".md" else enumerate(text.split("\n"), 1):

@@ -1,7 +1,7 @@
 #!/usr/bin/env python3
 """Puts the options of the command line and what findings mean into the pages that list them.
 
-usage: docs/options.py [--write]
+usage: tools/options.py [--write]
 
 The table of options is crates/zk_command/src/options.rt. From it come the usage in README.md, the manual and
 docs/zkit.1, and the ranges and defaults in the manual's table, in the page for man and in include/zkit.h. The options
@@ -105,20 +105,18 @@ def with_usage(text: str, command: str, options: list[Option], last: str) -> str
 def with_rows(text: str, options: list[Option]) -> str:
     """The manual with the ranges and defaults of its table."""
     for it in options:
-        if it.value == "n":
-            row = rf"(?m)^(\| `--{it.name} n` \| [^|]* \|)[^|]*\|[^|]*\|([^|]*)\|$"
-            default = f" {it.default:,} " if it.default is not None else r"\2"
-            text = re.sub(row, rf"\1 {it.least:,} | {it.most:,} |{default}|", text)
+        row = rf"(?m)^(\| `--{it.name} n` \| [^|]* \|)[^|]*\|[^|]*\|([^|]*)\|$"
+        default = f" {it.default:,} " if it.default is not None else r"\2"
+        text = re.sub(row, rf"\1 {it.least:,} | {it.most:,} |{default}|", text)
     return text
 
 
 def with_entries(text: str, options: list[Option]) -> str:
     """The page for man with the ranges and defaults of its entries."""
     for it in options:
-        if it.value == "n":
-            entry = rf'(?s)(\.BI \\-\\-{it.name} " n"\n.*?)\d+ to \d+(?:; without it \d+)?'
-            default = f"; without it {it.default}" if it.default is not None else ""
-            text = re.sub(entry, lambda found: f"{found[1]}{it.least} to {it.most}{default}", text, count=1)
+        entry = rf'(?s)(\.BI \\-\\-{it.name} " n"\n.*?)\d+ to \d+(?:; without it \d+)?'
+        default = f"; without it {it.default}" if it.default is not None else ""
+        text = re.sub(entry, lambda found: f"{found[1]}{it.least} to {it.most}{default}", text, count=1)
     return text
 
 
@@ -164,6 +162,7 @@ def made() -> dict[Path, str]:
     """Each page as it has to be."""
     text = TABLE.read_text("utf-8")
     play = read_options(text, "PLAY_OPTIONS")
+    numbers = [it for it in play if it.value == "n"]
     commands = [
         ("play", play, "STORY"),
         ("info", read_sections(SECTIONS.read_text("utf-8")) + read_options(text, "INFO_OPTIONS"), "STORY..."),
@@ -176,11 +175,11 @@ def made() -> dict[Path, str]:
         page = (TOP / name).read_text("utf-8")
         for command, options, last in commands:
             page = with_usage(page, command, options, last)
-        pages[TOP / name] = with_rows(page, play)
+        pages[TOP / name] = with_rows(page, numbers)
     manual = (TOP / "docs" / "zkit.1").read_text("utf-8")
     for command, options, _ in commands:
         manual = with_synopsis(manual, command, options)
-    pages[TOP / "docs" / "zkit.1"] = with_entries(manual, play)
+    pages[TOP / "docs" / "zkit.1"] = with_entries(manual, numbers)
     header = TOP / "include" / "zkit.h"
     pages[header] = with_constants(header.read_text("utf-8"), play)
     findings = read_findings(FINDINGS.read_text("utf-8"))
@@ -198,7 +197,7 @@ def main() -> int:
             path.write_text(pages[path], "utf-8")
         return 0
     for path in wrong:
-        print(f"{path.relative_to(TOP)}: it says something else than the sources: docs/options.py --write")
+        print(f"{path.relative_to(TOP)}: it says something else than the sources: tools/options.py --write")
     return 1 if wrong else 0
 
 

@@ -1,0 +1,3 @@
+static unsigned number;
+void turn_to(unsigned wanted) { number = wanted; }
+unsigned turned(void) { return number; }
