@@ -9,6 +9,7 @@ A query is one of these:
 
   12.4          a section of the Z-Machine Standards Document 1.1, with those inside it; 12 is a chapter
   print_paddr   an opcode: its meaning, the definitions that name it, and the rows that are read from it or use it
+  C7            a finding of `zkit check`: what it says, and the definitions that this cites
   dictionary    a word: the definitions whose name or meaning has it, and the rows with it in their name
 
 A definition is believed (contracts of public functions cite it), a law (a public function proves it), an example
@@ -42,6 +43,7 @@ from sources import blocks_of, crates, functions_of  # noqa: E402
 
 PAGE = TOP / "docs" / "DEFINITIONS.md"
 TEMPLATE = TOP / "tools" / "definitions.md.in"
+FINDINGS = TOP / "crates" / "zk_inspect" / "src" / "check" / "finding.rt"
 
 CHAPTERS = dict(it.split(" ", 1) for it in (TOP / "tools" / "chapters.txt").read_text("utf-8").splitlines())
 
@@ -622,6 +624,23 @@ def on_opcode(query: str, book: Book) -> Answer:
     return Answer(f"{query}  " + "; ".join(it.said for it in own), groups, rows)
 
 
+def on_finding(query: str, book: Book) -> Answer:
+    """What there is on a finding of `check`: the equations for its name, and what they cite."""
+    named = re.search(rf"Number::(\w+) => {query[1:]},", FINDINGS.read_text("utf-8"))
+    name = named[1] if named else ""
+    meaning: list[Entry] = []
+    cites: set[Key] = set()
+    for definition in book.definitions:
+        cited_there = [cites for left, cites in definition.equations if name and name in words_of(left)]
+        if cited_there:
+            quotes = [line.strip() for line in definition.text.splitlines() if name in words_of(line)]
+            meaning.append((definition, quotes))
+            cites.update(*cited_there)
+    shown = {definition.key() for definition, _ in meaning}
+    others: list[Entry] = [(it, []) for it in book.definitions if it.key() in cites - shown]
+    return Answer(f"{query}  {name}", [("Equations for it", meaning), ("What these cite", others)], [])
+
+
 def on_word(query: str, book: Book) -> Answer:
     """The definitions with a word in their name, their meaning or a section's, and the rows with it in their name."""
     by_name: list[Entry] = []
@@ -650,7 +669,9 @@ def has_word(text: str, word: str) -> bool:
 def answer(query: str, book: Book) -> Answer | None:
     """What there is on a query, if there is anything."""
     is_opcode = any(opcode.name == query for opcode in book.opcodes)
-    found = (on_section if re.fullmatch(NUMBER, query) else on_opcode if is_opcode else on_word)(query, book)
+    is_section, is_finding = re.fullmatch(NUMBER, query), re.fullmatch(r"C\d+", query)
+    find = on_section if is_section else on_opcode if is_opcode else on_finding if is_finding else on_word
+    found = find(query, book)
     is_there = any(entries for _, entries in found.definitions) or any(rows for _, rows in found.rows)
     return found if is_there else None
 
