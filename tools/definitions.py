@@ -703,7 +703,8 @@ def wrapped(text: str, indent: str, first: str | None = None) -> str:
 def entry_lines(definition: Definition, quotes: list[str], widest: int, is_brief: bool) -> Iterator[str]:
     """The lines of a definition."""
     indent = " " * 12
-    place = f"crates/{definition.crate}/specs/{definition.file}.antt:{definition.line}"
+    path = next((TOP / "crates" / definition.crate / "specs").rglob(f"{definition.file}.antt"))
+    place = f"{path.relative_to(TOP)}:{definition.line}"
     yield f"  {definition.kind:<9} {definition.name:<{widest}}  {place}"
     if definition.meaning():
         yield wrapped(definition.meaning(), indent)

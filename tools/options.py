@@ -7,7 +7,8 @@ The table of options is crates/zk_command/src/options.rt. From it come the usage
 docs/zkit.1, and the ranges and defaults in the manual's table, in the page for man and in include/zkit.h. The options
 of sections are those of crates/zk_inspect/src/section.rt. The words of findings are those of
 crates/zk_inspect/src/check/finding.rt. From it come the manual's table of them, and the words in the page. Without
---write it tells which of these say something else, and the status is then 1.
+--write it tells which of these say something else. In both ways it tells which option has no entry in docs/zkit.1,
+and which finding no row in the manual. The status is 1 where it tells something.
 """
 
 from __future__ import annotations
@@ -158,18 +159,36 @@ def with_meanings(text: str, findings: list[tuple[int, str, str]]) -> str:
     return re.sub(r"(?s)(const MEANINGS = \{\n).*?(?=\};)", lambda found: found[1] + lines, text)
 
 
-def made() -> dict[Path, str]:
-    """Each page as it has to be."""
+def read_commands() -> list[tuple[str, list[Option], str]]:
+    """The commands with options: the name of each, its options, and what stands behind them."""
     text = TABLE.read_text("utf-8")
-    play = read_options(text, "PLAY_OPTIONS")
-    numbers = [it for it in play if it.value == "n"]
-    commands = [
-        ("play", play, "STORY"),
-        ("info", read_sections(SECTIONS.read_text("utf-8")) + read_options(text, "INFO_OPTIONS"), "STORY..."),
+    sections = read_sections(SECTIONS.read_text("utf-8"))
+    return [
+        ("play", read_options(text, "PLAY_OPTIONS"), "STORY"),
+        ("info", sections + read_options(text, "INFO_OPTIONS"), "STORY..."),
         ("disasm", read_options(text, "DISASM_OPTIONS"), "STORY"),
         ("check", read_options(text, "CHECK_OPTIONS"), "STORY..."),
         ("test", read_options(text, "TEST_OPTIONS"), "PATH..."),
     ]
+
+
+def lacking() -> list[str]:
+    """What the pages lack: an entry in the page for man for each option, and a row in the manual for each finding."""
+    manual, listings = (TOP / "docs" / "zkit.1").read_text("utf-8"), LISTINGS.read_text("utf-8")
+    entries = {it.replace("\\", "") for it in re.findall(r"(?m)^\.B[IR]? (\\-\\-\S+)", manual)}
+    names = sorted({f"--{it.name}" for _, options, _ in read_commands() for it in options} - entries)
+    findings = [f"C{number}" for number, _, _ in read_findings(FINDINGS.read_text("utf-8"))]
+    rows = [it for it in findings if f"\n| `{it}` " not in listings]
+    return [f"docs/zkit.1: it has no entry for {it}" for it in names] + [
+        f"docs/manual/listings.md: it has no row for {it}" for it in rows
+    ]
+
+
+def made() -> dict[Path, str]:
+    """Each page as it has to be."""
+    commands = read_commands()
+    play = commands[0][1]
+    numbers = [it for it in play if it.value == "n"]
     pages = {}
     for name in ("README.md", *(f"docs/manual/{page}.md" for page in ("playing", "listings", "testing"))):
         page = (TOP / name).read_text("utf-8")
@@ -189,16 +208,19 @@ def made() -> dict[Path, str]:
 
 
 def main() -> int:
-    """Writes the pages, or tells which are not as they have to be."""
+    """Writes the pages, or tells which are not as they have to be, and in both ways what they lack."""
     pages = made()
-    wrong = [path for path, text in pages.items() if path.read_text("utf-8") != text]
-    if sys.argv[1:] == ["--write"]:
-        for path in wrong:
-            path.write_text(pages[path], "utf-8")
-        return 0
-    for path in wrong:
-        print(f"{path.relative_to(TOP)}: it says something else than the sources: tools/options.py --write")
-    return 1 if wrong else 0
+    told = lacking()
+    for path, text in pages.items():
+        if path.read_text("utf-8") == text:
+            continue
+        if sys.argv[1:] == ["--write"]:
+            path.write_text(text, "utf-8")
+        else:
+            told.append(f"{path.relative_to(TOP)}: it says something else than the sources: tools/options.py --write")
+    for line in told:
+        print(line)
+    return 1 if told else 0
 
 
 if __name__ == "__main__":
