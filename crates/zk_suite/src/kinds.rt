@@ -1,7 +1,31 @@
 // The kinds of lines in a walkthrough.
 
 ghost use Rattle.std.specs.Prelude.{◌≡◌, option_map};
-ghost use Rattle.zk_suite.specs.Scripts.{asked, is_comment};
+ghost use Rattle.zk_suite.specs.Scripts.{RecordedIsTyped, asked, is_comment, needs_backslash, without_mark};
+
+/// Bytes without the byte order mark that they may begin with.
+pub fn without_mark(bytes: &[u8]) -> &[u8]
+    ensures { result.now ≡ without_mark bytes.now }
+{
+    if bytes.starts_with(b"\xef\xbb\xbf") {
+        &bytes[3..]
+    } else {
+        bytes
+    }
+}
+
+/// Whether a command needs a backslash before it in a walkthrough, by the byte that it begins with.
+pub fn needs_backslash(first: u8) -> bool
+    ensures { result ≡ needs_backslash first }
+{
+    first == b'#' || first == b'!' || first == b'\\'
+}
+
+/// A line that was typed, and that stands in a walkthrough with a backslash before it where it needs one, is typed
+/// again.
+pub fn recorded_is_typed()
+    ensures { RecordedIsTyped }
+{}
 
 /// Whether a line is a comment, where no other line stands before it: `#` alone, or what begins with `# `.
 pub(crate) fn is_comment(line: &[u8]) -> bool

@@ -3,7 +3,7 @@
 
 pub mod difference;
 pub mod examples;
-mod kinds;
+pub mod kinds;
 mod lines;
 pub mod search;
 mod settings;

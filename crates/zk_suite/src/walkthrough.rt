@@ -4,10 +4,10 @@ ghost use Rattle.std.specs.Prelude.{◌≡◌, ◌<◌, ◌≤◌, ◌+◌, ◌^
 ghost use Rattle.std.specs.Prelude.{IfOk, OnOk};
 ghost use Rattle.std.specs.Str.Lines.{lines};
 ghost use Rattle.zk_suite.specs.Scripts.{asked_at, checks_of, command_count, commands_of, comments, first_of, script};
-ghost use Rattle.zk_suite.specs.Scripts.{setting_in, settings_of, typed};
+ghost use Rattle.zk_suite.specs.Scripts.{plain_command, setting_in, settings_of, typed, without_mark};
 ghost use Rattle.zk_suite.specs.Seen.{check_seen};
 
-use crate::kinds::{asked, is_comment};
+use crate::kinds::{asked, is_comment, without_mark};
 use crate::lines::cut_line;
 use crate::settings::{setting_in, value_in};
 use std::alloc::{AllocError, Global};
@@ -64,7 +64,8 @@ pub struct Check<'a> {
 /// dropped.
 ///
 /// Each line after the comments is `! text`, which asks that the answer to the command before it has the text; `!~
-/// text`, which asks that it has not; or else a command.
+/// text`, which asks that it has not; or else a command. A backslash that a command begins with is not typed: it tells
+/// `\! text` from what asks something, and `\# text` from a comment.
 #[derive(Clone, Copy, Drop)]
 pub struct Walkthrough<'a> {
     /// The bytes of its file.
@@ -85,12 +86,23 @@ fn put_setting<'a>(
     Ok(())
 }
 
-/// Puts a line and a new line behind others, where it is a command.
+/// What is typed by a command.
+fn plain_command(line: &[u8]) -> &[u8]
+    ensures { result.now ≡ plain_command line.now }
+{
+    if line.starts_with(b"\\") {
+        &line[1..]
+    } else {
+        line
+    }
+}
+
+/// Puts what is typed by a line and a new line behind others, where it is a command.
 fn put_command(out: &mut Vec<u8>, line: &[u8]) -> Result<(), AllocError>
     ensures { OnOk result (out.new.items ≡ out.old.items ++ typed (line.now ∷ [])) }
 {
     if asked(line).is_none() {
-        out.extend_from_slice(line)?;
+        out.extend_from_slice(plain_command(line))?;
         out.push(b'\n')?;
     }
     Ok(())
@@ -124,11 +136,13 @@ fn put_check<'a>(
 }
 
 impl<'a> Walkthrough<'a> {
-    /// The walkthrough that bytes are.
+    /// The walkthrough that bytes are, without a byte order mark before them.
     pub fn of(bytes: &'a [u8]) -> Walkthrough<'a>
-        ensures { result.bytes.now ≡ bytes.now }
+        ensures { result.bytes.now ≡ without_mark bytes.now }
     {
-        Walkthrough { bytes }
+        Walkthrough {
+            bytes: without_mark(bytes),
+        }
     }
 
     /// The value of the first setting of a name.

@@ -1,6 +1,6 @@
 -- Worked examples of walkthroughs, by hand.
-use Rattle.std.specs.Prelude.{◌≡◌, ℕ, true, false, List, [], ◌∷◌, codes, Some, None}
-use Rattle.zk_suite.specs.Scripts.{commands_of, checks_of, settings_of, setting_in, first_of}
+use Rattle.std.specs.Prelude.{◌≡◌, ℕ, true, false, List, [], ◌∷◌, ◌++◌, codes, Some, None}
+use Rattle.zk_suite.specs.Scripts.{commands_of, checks_of, settings_of, setting_in, first_of, recorded, without_mark}
 
 abbrev pub walkthrough : List ℕ
 walkthrough =
@@ -40,3 +40,20 @@ SettingsAreRead =
     × (setting_in (codes "# : x") ≡ None)
     × (setting_in (codes "#") ≡ None)
     × (first_of (codes "a") (settings_of (codes "# a: 1\n# a: 2\n")) ≡ Some (codes "1"))
+
+-- a backslash at the start of a command is dropped, one of two too; with it no line asks anything or is a comment
+abbrev pub BackslashesAreDropped : Type 0
+BackslashesAreDropped =
+    (commands_of (92 ∷ codes "# x\n" ++ 92 ∷ codes "! west\n" ++ 92 ∷ 92 ∷ codes "a\nb" ++ 92 ∷ codes "\n")
+    ≡ codes "# x\n! west\n" ++ 92 ∷ codes "a\nb" ++ 92 ∷ codes "\n")
+    × (recorded (codes "! west") ≡ 92 ∷ codes "! west")
+    × (recorded (codes "#") ≡ 92 ∷ codes "#")
+    × (recorded (codes "a!") ≡ codes "a!")
+
+-- a byte order mark is dropped where it is whole, and once
+abbrev pub MarksAreDropped : Type 0
+MarksAreDropped =
+    (without_mark (0xef ∷ 0xbb ∷ 0xbf ∷ codes "# a") ≡ codes "# a")
+    × (without_mark (0xef ∷ 0xbb ∷ 0xbf ∷ 0xef ∷ 0xbb ∷ 0xbf ∷ []) ≡ 0xef ∷ 0xbb ∷ 0xbf ∷ [])
+    × (without_mark (0xef ∷ 0xbb ∷ []) ≡ 0xef ∷ 0xbb ∷ [])
+    × (without_mark (0xef ∷ 0xbb ∷ 0xbe ∷ []) ≡ 0xef ∷ 0xbb ∷ 0xbe ∷ [])
