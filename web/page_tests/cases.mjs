@@ -6,6 +6,7 @@ import { contrast, named } from "./access.mjs";
 import { KEEPING, blorb, spoilInPage } from "./keeping.mjs";
 import { EXAMPLES, MENU, basename, holds, join, linesOf, native, pause, readFileSync, same, sameWithKeys } from "./page.mjs";
 import { telling } from "./stories.mjs";
+import { USING } from "./using.mjs";
 
 const z = (version) => join(EXAMPLES, `lighthouse.z${version}`);
 const WALKTHROUGH = join(EXAMPLES, "lighthouse.walkthrough");
@@ -788,6 +789,7 @@ export const CASES = [
     ["lines that a story has wrapped", reflow],
     ["lines that just fit, and that just do not", wraps],
     ...KEEPING,
+    ...USING,
     ["360 pixels wide", narrow],
     ["contrast of all texts", contrast],
     ["roles and names", named],

@@ -45,3 +45,28 @@ export function repeating(text, count) {
     const all = [0x0d, 0x11, 0, ...print, ...back, ...READ];
     return storyOf([...all, ...jumpBack(all.length)]);
 }
+
+/** A story that reads a line, and then saves again and again, whatever is answered. */
+export function asking() {
+    return storyOf([...printed(">"), ...READ, 0xbe, 0x00, 0xff, 0x10, ...jumpBack(4)]);
+}
+
+/** A story that runs twelve million instructions and prints a text before each line that it reads. */
+export function counting(text) {
+    // store global 1, 0; store global 0, 0; inc_chk global 0, 30000 ?~ again; inc_chk global 1, 399 ?~ back to the second one
+    const count = [0x0d, 0x11, 0, 0x0d, 0x10, 0, 0xc5, 0x4f, 0x10, 0x75, 0x30, 0x3f, 0xfb, 0xc5, 0x4f, 0x11, 0x01, 0x8f, 0x3f, 0xf1];
+    const all = [...count, ...printed(text), ...READ];
+    return storyOf([...all, ...jumpBack(all.length)]);
+}
+
+/** A story of version 3 whose place is "ab", with two figures of its status line. */
+export function tellingStatus(flags, first, second) {
+    const code = [...printed("A room.\n>"), 0xe4, 0x0f, LINE >> 8, LINE & 0xff, 0x03, 0x00];
+    const story = storyOf([...code, ...jumpBack(6)]);
+    story.set([3, flags]);
+    story[0x300] = 5;
+    story.set([0x01, 0x80], 0x13e + 7);
+    story.set([0x01, 0x98, 0xe5], 0x180);
+    story.set([...word(1), ...word(first), ...word(second)], 0x400);
+    return story;
+}
