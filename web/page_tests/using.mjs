@@ -361,11 +361,14 @@ async function tabs(page) {
     const sizes = lines.map((line, i) => `${line.slice(6)}, ${(starts[i + 1] - starts[i]).toLocaleString("en-US")} bytes`);
     const legend = await page.run(() => [...document.querySelectorAll(".legend li")].map((it) => it.textContent.replace(/ byte$/, " bytes")));
     same(legend.join("|"), sizes.join("|"), "the legend of the map");
-    await page.click("#tab-dictionary");
-    await page.until(() => document.getElementById("panel").getAttribute("aria-busy") === "false");
-    await page.click("#find");
-    await page.browser.write("LANTERN");
-    await page.until(() => document.querySelectorAll("#listing .row-line").length === 1);
+    for (const [tab, word] of [["dictionary", "LANTERN"], ["tree", "jetty"], ["tree", "JETTY"]]) {
+        await page.click(`#tab-${tab}`);
+        await page.until(() => document.getElementById("panel").getAttribute("aria-busy") === "false");
+        await page.click("#find");
+        await page.browser.write(word);
+        await page.until((it) => [...document.querySelectorAll("#listing .row-line")].map((row) => row.textContent.toLowerCase()).join()
+            .match(new RegExp(`^[^,]*${it}\\b[^,]*$`)), word.toLowerCase());
+    }
 }
 
 /** What each finding means is what the notes of the program say. */
@@ -408,27 +411,38 @@ const SPOILT = [102];
 /** By what a packed address is multiplied (section 1.2.3). */
 const FACTORS = { 3: 2, 4: 4, 5: 4, 8: 8 };
 
-/** A link in the code leads to its address, or past the local variables of the routine that is called (section 5.2). */
+/** The links of lines that call a routine, as far as the listing has its first instruction (section 5.2). */
+function linksOf(rows, listing, story, version) {
+    const places = new Set(listing.map((line) => line.slice(0, 5)));
+    return rows.flatMap((row) => {
+        const [, packed] = /^[0-9a-f]{5} call\w* #([0-9a-f]{4})\b/.exec(row) ?? [];
+        const routine = parseInt(packed, 16) * FACTORS[version];
+        const place = packed && (routine + 1 + (version < 5 ? 2 * story[routine] : 0)).toString(16).padStart(5, "0");
+        return places.has(place) ? [`${packed} ${place}`] : [];
+    });
+}
+
+/** A link in the code leads to its address, or past the local variables of the routine that is called. */
 async function codeLinks(page) {
     await page.fresh();
-    let count = 0;
-    for (const [version, factor] of Object.entries(FACTORS)) {
-        const story = readFileSync(join(EXAMPLES, `lighthouse.z${version}`));
-        await page.open(join(EXAMPLES, `lighthouse.z${version}`));
+    const counts = [];
+    for (const version of Object.keys(FACTORS)) {
+        const path = join(EXAMPLES, `lighthouse.z${version}`);
+        await page.open(path);
         await page.click("#show-inside");
         await page.click("#tab-code");
         await page.until(() => document.querySelector("#listing a"));
-        const links = await page.run(() => [...document.querySelectorAll("#listing a")].map((it) => [it.textContent, it.hash.slice(1)]));
-        for (const [text, place] of links) {
-            const routine = parseInt(text, 16) * factor;
-            const wanted = text.length === 5 ? parseInt(text, 16) : routine + 1 + (version < 5 ? 2 * story[routine] : 0);
-            same(place, wanted.toString(16).padStart(5, "0"), `the link ${text} in version ${version}`);
-            count += text.length === 4 ? 1 : 0;
-        }
+        const links = await page.run(() => [...document.querySelectorAll("#listing a")].map((it) => `${it.textContent} ${it.hash.slice(1)}`));
+        const rows = await page.run(() => [...document.querySelectorAll("#listing .row-line")].map((it) => it.textContent.trimEnd()));
+        const wanted = linksOf(rows, native(["disasm", path]).text.split("\n"), readFileSync(path), version);
+        same(links.filter((link) => /^....\s/.test(link)).join(), wanted.join(), `the links to routines in version ${version}`);
+        const others = links.filter((link) => !/^....\s/.test(link) && link.slice(0, 5) !== link.slice(6));
+        same(others.join(), "", `the links to another address in version ${version}`);
+        holds(wanted.length > 5, `version ${version} has ${wanted.length} links to routines`);
+        counts.push(wanted.length);
         await page.leave();
     }
-    holds(count > 40, `there are ${count} links to routines`);
-    return `${count} links to routines`;
+    return `${counts.join(", ")} links to routines`;
 }
 
 export const USING = [
