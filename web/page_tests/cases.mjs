@@ -236,22 +236,19 @@ async function link(page) {
     await page.open(MENU);
     await page.until(() => document.getElementById("told").textContent.includes("letter by letter"));
     same(await page.transcript(), text, "the transcript of the link");
-    await page.click("#show-lines");
-    await page.shown("lines");
+    await page.lines();
     await page.click("#line-list li:last-child button");
     await page.rests();
     await page.say("hello");
     same(await page.transcript(), text.replace(/roll\n[^>]*>$/, "hello\nNothing happens.\n\n>"), "the transcript that goes on");
-    await page.click("#show-lines");
-    await page.shown("lines");
+    await page.lines();
     same(await page.run(() => document.querySelectorAll("#line-list .later").length), 0, "the number of later lines after an answer");
     return `${address.length} characters`;
 }
 
 /** The address of a link to the play. */
 async function linkOf(page) {
-    await page.click("#show-lines");
-    await page.shown("lines");
+    await page.lines();
     await page.click("#copy-link");
     const address = await page.until(() => location.hash.startsWith("#play=") && location.hash);
     await page.leave();
@@ -285,8 +282,7 @@ async function longPlay(page) {
     await page.fresh();
     await page.open(MENU);
     const file = JSON.parse(readFileSync(await page.fileAfter(async () => {
-        await page.click("#show-lines");
-        await page.shown("lines");
+        await page.lines();
         await page.click("#play-file");
     })));
     await page.leave();
@@ -296,8 +292,7 @@ async function longPlay(page) {
     await page.until(() => document.getElementById("told").textContent.includes("not the same as in the shared play"));
     const took = Date.now() - began;
     same(await page.transcript(), native(["play", "--echo", MENU], joined(lines)).text, "the transcript");
-    await page.click("#show-lines");
-    await page.shown("lines");
+    await page.lines();
     same(await page.isShown("copy-link"), false, "whether a link can be copied");
     same(await page.run(() => document.querySelectorAll("#line-list li").length), 1000, "the number of lines");
     await page.leave();
@@ -312,15 +307,14 @@ async function linesBackAndForth(page) {
     await page.sayAll(["roll", "roll", "roll"]);
     const text = await page.transcript();
     const choose = async (place) => {
-        await page.click("#show-lines");
-        await page.shown("lines");
+        await page.lines();
         await page.click(`#line-list li:nth-child(${place + 1}) button`);
         await page.until(() => !document.querySelector("dialog[open]"));
         await page.rests();
     };
     await choose(1);
     same(await page.transcript(), native(["play", "--echo", MENU], "roll\n").text, "the transcript before the second line");
-    await page.click("#show-lines");
+    await page.lines();
     const looks = await page.run(() => [...document.querySelectorAll("#line-list li")].map((it) => `${it.textContent}:${it.className}`));
     same(looks.join(), "roll:,roll:later,roll:later,(the end of the list):later", "which lines look given, and which later");
     await page.leave();
@@ -384,8 +378,7 @@ async function playFile(page) {
     await page.open(MENU);
     await page.sayAll(["roll", "roll"]);
     const text = await page.transcript();
-    await page.click("#show-lines");
-    await page.shown("lines");
+    await page.lines();
     const file = await page.fileAfter(() => page.click("#play-file"));
     const bytes = readFileSync(file);
     await page.fresh();

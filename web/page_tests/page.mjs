@@ -126,6 +126,12 @@ export class Page {
         await this.click(`#${id}`);
     }
 
+    /** Opens the list of lines, which comes once its link is made. */
+    async lines() {
+        await this.click("#show-lines");
+        await this.shown("lines");
+    }
+
     /** Leaves the window that is open. */
     async leave() {
         await this.browser.press("Escape");

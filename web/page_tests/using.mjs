@@ -71,7 +71,7 @@ async function keysByButtons(page) {
     await page.browser.press("q");
     await page.until(() => document.getElementById("asked").textContent !== "Press a key");
     same(await page.isShown("space"), false, "whether a line has a button for Space");
-    await page.click("#show-lines");
+    await page.lines();
     const list = await page.run(() => [...document.querySelectorAll("#line-list li")].map((it) => it.textContent).join());
     same(list, "(an empty line),menu,key Space,key n,key Enter,key q", "the list of lines");
 }
@@ -90,7 +90,7 @@ async function lettersAnywhere(page) {
             await page.say("look");
             same((await page.run(typedLines)).split(",").pop(), "look", `what was typed after ${button} was left by ${how}`);
         }
-    await page.click("#show-lines");
+    await page.lines();
     await page.leave();
     await page.browser.press("Enter");
     await page.shown("lines");
@@ -112,7 +112,7 @@ async function undoFar(page) {
     await page.click("#undo");
     await page.rests();
     await page.say("look");
-    await page.click("#show-lines");
+    await page.lines();
     const list = await page.run(() => [...document.querySelectorAll("#line-list li")].map((it) => it.textContent).join());
     same(list, "undo on,north,(Undo),look", "the list of lines");
     await page.leave();
@@ -204,7 +204,7 @@ async function otherStory(page) {
     await page.open(MENU);
     await page.sayAll(["roll", "roll"]);
     const text = await page.transcript();
-    await page.click("#show-lines");
+    await page.lines();
     const bytes = readFileSync(await page.fileAfter(() => page.click("#play-file")));
     const ifids = [MENU, Z5].map((path) => native(["info", "--ifid", path]).text.replace(/^\[ifid\]\n/, "").trim());
     await page.fresh();
@@ -234,7 +234,7 @@ async function otherStory(page) {
 async function longestLink(page) {
     await page.fresh();
     await page.open(MENU);
-    await page.click("#show-lines");
+    await page.lines();
     const file = JSON.parse(readFileSync(await page.fileAfter(() => page.click("#play-file"))));
     await page.leave();
     const letters = (count) => Array.from({ length: count / 50 }, () => `x${randomBytes(60).toString("base64").slice(0, 49)}`);
@@ -245,7 +245,7 @@ async function longestLink(page) {
             await page.click("#asking-yes");
         await page.until((lines) => document.getElementById("told").textContent.includes("not the same")
             && [...document.querySelectorAll("#log .typed")].pop()?.textContent === `${lines.pop()}\n`, answers);
-        await page.click("#show-lines");
+        await page.lines();
         await page.until(() => document.querySelector("#lines[open] #line-list li"));
         const isShown = await page.until(() => document.getElementById("copy-link").onclick
             && [document.getElementById("copy-link").getClientRects().length > 0]);
@@ -331,7 +331,7 @@ async function names(page) {
     const ifid = native(["info", "--ifid", MENU]).text.replace(/^\[ifid\]\n/, "").trim();
     same(await page.text("about"), `a.b.z5, release 1, IFID ${ifid}, line 2`);
     same(basename(await page.fileAfter(() => page.click("#transcript"))), "a.b.txt");
-    await page.click("#show-lines");
+    await page.lines();
     same(basename(await page.fileAfter(() => page.click("#play-file"))), "a.b.play.json");
     await page.leave();
     await page.click("#show-inside");
