@@ -255,10 +255,15 @@ function refusedFiles(module) {
             }
 }
 
-/** Limits at the ends of their ranges, as zkit.h has them. */
+/** Limits at the ends of their ranges, and the longest story of each version, as zkit.h has them. */
 function limits(module) {
     const story = example("hello.z3");
     const number = (options) => refusalOf(() => module.open(story, options)).number;
+    for (const [version, most] of [[3, 131_072], [4, 262_144], [5, 262_144], [8, 524_288]])
+        for (const [length, reason] of [[most, 0], [most + 1, 3]]) {
+            const long = Buffer.concat([example(`lighthouse.z${version}`), Buffer.alloc(length)]).subarray(0, length);
+            want(refusalOf(() => module.open(long)).number === reason, `version ${version} of ${length} bytes`);
+        }
     const ranges = { frames: [1, 65_535], words: [0, 65_535], undo: [0, 64], steps: [1, 1e9], room: [1, 2 ** 31 - 1] };
     for (const [name, [least, most]] of Object.entries(ranges)) {
         for (const value of [least, most])
