@@ -363,6 +363,7 @@ function figures(module) {
         game.turn();
         const line = JSON.stringify({ kind, name: "ab", first, second });
         want(JSON.stringify(game.statusLine()) === line, `a status line: ${kind}`);
+        want(!game.undo() && !game.saved(true) && !game.restore(null), "there is no state, and no saved game");
         game.close();
         game.close();
         let thrown = "";

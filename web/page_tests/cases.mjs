@@ -519,6 +519,7 @@ async function undoAfterReload(page) {
     await page.open(MENU);
     await page.click("#undo");
     await page.until(() => document.getElementById("told").textContent === "There is nothing to go back to.");
+    await page.rests();
     await page.sayAll(["roll", "roll"]);
     await page.keeps(2);
     await page.reload();

@@ -9,7 +9,7 @@ export const ROOT = join(fileURLToPath(import.meta.url), "../../..");
 export const EXAMPLES = join(ROOT, "examples");
 export const MENU = join(ROOT, "web/page_tests/menu.z5");
 const ZKIT = join(ROOT, "dist/zkit");
-const LONGEST_WAIT = 20000;
+const LONGEST_WAIT = 40000;
 
 export const pause = (time) => new Promise((resolve) => setTimeout(resolve, time));
 
