@@ -105,6 +105,7 @@ async function forgets(page, isLasting) {
     same(await page.isShown("not-lasting"), !isLasting, "whether the page says that nothing is kept");
     await page.leave();
     await page.rests();
+    same(await page.transcript(), native(["play", "--echo", Z5], "save\n").text, "the transcript of a game that is not saved");
     await page.say("open bag");
     await save(page, "first");
     await page.say("take letter");
@@ -184,6 +185,7 @@ async function savedFiles(page) {
     await page.until(() => document.querySelectorAll("#slots li").length === 1);
     await page.leave();
     same(await listedSaves(page), "lighthouse.z5", "the saved games");
+    holds(!/line -?\d/.test(await page.text("slots")), await page.text("slots"));
     await page.leave();
     await page.say("restore");
     await page.click("#slots .pick");
