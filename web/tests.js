@@ -7,14 +7,19 @@
 // FOLDER has what conformance/run.py --write and generated.py with COUNT write, the stories of
 // examples/embed/large.cases and, where there is a C compiler, the program kept.
 import { spawnSync } from "child_process";
+import { createHash } from "crypto";
 import fs from "fs";
 import path from "path";
 import { fileURLToPath } from "url";
+import { sumOf } from "./page/sums.js";
+import { telling, tellingStatus } from "./page_tests/stories.mjs";
 import { linesOf, play } from "./player.js";
 import { LISTINGS, Module, Refused } from "./zkit.js";
 
 const [MODULE, PROGRAM, FOLDER, COUNT] = process.argv.slice(2);
 const EXAMPLES = fileURLToPath(new URL("../examples", import.meta.url));
+const PLAY = fileURLToPath(new URL("play.js", import.meta.url));
+const MENU = fs.readFileSync(new URL("page_tests/menu.z5", import.meta.url));
 const VERSIONS = [3, 4, 5, 8];
 const CAP = 64 << 20;
 const PAGE = 65_536;
@@ -61,7 +66,8 @@ function byModule(module, story, options, input, { saved = null, keeps = true, s
     }, slice);
     game.close();
     const last = ending.told.slice(-1).join();
-    return { shown: Buffer.concat(shown), script: Buffer.concat(script), saved, status: ending.status, last };
+    const told = ending.told.join("\n");
+    return { shown: Buffer.concat(shown), script: Buffer.concat(script), saved, status: ending.status, last, told };
 }
 
 function run(words, input = NONE) {
@@ -84,7 +90,7 @@ function byProgram(story, words, input) {
     fs.writeFileSync(file, story);
     const { shown, status, told } = run(["play", ...words, "--save", save, "--script", script, file], input);
     const last = LAST_LINE.test(told[told.length - 1]) ? told[told.length - 1] : "";
-    return { shown, script: taken(script) ?? NONE, saved: taken(save), status, last };
+    return { shown, script: taken(script) ?? NONE, saved: taken(save), status, last, told: told.slice(-2).join("\n") };
 }
 
 /** Plays each row in both of its ways. */
@@ -217,6 +223,166 @@ function refusals(module) {
     const limits = [{ frames: 0 }, { frames: 65_536 }, { words: -1 }, { undo: 65 }, { steps: 2 ** 32 }, { room: 0 }];
     for (const options of limits)
         want(refusalOf(() => module.open(story, options)).number === 7, `refused: ${JSON.stringify(options)}`);
+}
+
+/** The words for each reason why nothing is opened, as examples/embed/tries.txt has them for the library for C. */
+function wordsOfReasons(module) {
+    const [, part] = String(example("embed/tries.txt")).split("why nothing is opened, in words\n");
+    const words = part.split("\n").filter((line) => line.startsWith("  its words: ")).map((line) => line.slice(14, -1));
+    const buffer = module.calls.zkit_take(16_384n);
+    const story = example("lighthouse.z5");
+    for (const reason of [1, 3, 4, 5, 6, 7, 8, 9, 10, 11])
+        want(module.wordsOfRefusal(reason, story, buffer) === words[reason], `the words of reason ${reason}`);
+    want(module.wordsOfRefusal(2, story, buffer) === "version 5 is not played", "the words of reason 2");
+    module.calls.zkit_give(buffer);
+    const options = { frames: 0 };
+    want(refusalOf(() => module.open(story, options)).message === words[7], "the words of a limit out of its range");
+    want(refusalOf(() => module.openSnapshot(story, story)).message === words[8], "the words of what is no snapshot");
+}
+
+/** Files that are no stories, shorter than a header and longer: the words are those of the program. */
+function refusedFiles(module) {
+    const fronts = [
+        "FORM\0\0\0\x40IFRS", "Glul\0\x03\x01\x03", "\x1f\x8b\x08", "PK\x03\x04", "Dear reader, ", "\x06\0", "\0",
+        "\xff",
+    ];
+    for (const front of fronts)
+        for (const length of [front.length, 63, 64, 2000])
+            for (const rest of [0, 0x20]) {
+                const file = Buffer.concat([Buffer.from(front, "latin1"), Buffer.alloc(length, rest)]);
+                const name = `${JSON.stringify(front)} of ${length} bytes, and ${rest}`;
+                refusedAsByProgram(module, name, file.subarray(0, length));
+            }
+}
+
+/** Limits at the ends of their ranges, and the longest story of each version, as zkit.h has them. */
+function limits(module) {
+    const story = example("hello.z3");
+    const number = (options) => refusalOf(() => module.open(story, options)).number;
+    for (const [version, most] of [[3, 131_072], [4, 262_144], [5, 262_144], [8, 524_288]])
+        for (const [length, reason] of [[most, 0], [most + 1, 3]]) {
+            const long = Buffer.concat([example(`lighthouse.z${version}`), Buffer.alloc(length)]).subarray(0, length);
+            want(refusalOf(() => module.open(long)).number === reason, `version ${version} of ${length} bytes`);
+        }
+    const ranges = { frames: [1, 65_535], words: [0, 65_535], undo: [0, 64], steps: [1, 1e9], room: [1, 2 ** 31 - 1] };
+    for (const [name, [least, most]] of Object.entries(ranges)) {
+        for (const value of [least, most])
+            want(number({ [name]: value }) === 0, `${name} of ${value} is taken`);
+        for (const value of [least - 1, most + 1, most + 0.5, NaN, 2 ** 32 + most])
+            want(number({ [name]: value }) === 7, `${name} of ${value} is refused`);
+    }
+}
+
+/** Seeds of up to 64 bits give the numbers that they give the program. */
+function seeds(module) {
+    const input = Buffer.from("roll\nroll\nroll\n");
+    const seen = new Set();
+    for (const seed of [0n, 1n, 7n, 2n ** 32n - 1n, 2n ** 32n, 2n ** 32n + 7n, 2n ** 63n + 7n, 2n ** 64n - 1n]) {
+        const came = byModule(module, MENU, { seed }, input);
+        wantSame(came, byProgram(MENU, ["--seed", `${seed}`], input), `the seed ${seed}`);
+        seen.add(String(came.shown));
+    }
+    want(seen.size === 8, "each seed gives other numbers");
+    const { told } = byModule(module, MENU, {}, Buffer.from("break\n"));
+    const isSame = told === byProgram(MENU, [], Buffer.from("break\n")).told;
+    want(isSame && told.startsWith("zkit: division by zero\n"), `the words of a fault: ${told}`);
+}
+
+/** Lines as they may come: their ends, their lengths and their bytes. */
+function inputs(module) {
+    const long = (length, rest = "") => Buffer.from("x".repeat(length) + rest);
+    const lines = [
+        "look\r\ninventory\r\n", "look\n\n\r\nlook", "look\r\r\n", "\xe4\xf6\n\xff\n", "look\tx\n\0\n",
+        "\u{1F600}\n",
+    ];
+    const all = [
+        NONE, ...lines.map((text) => Buffer.from(text)), ...lines.map((text) => Buffer.from(text, "latin1")),
+        long(65_535), long(65_536), long(65_535, "\nlook\n"), long(70_000),
+    ];
+    for (const [i, input] of all.entries()) {
+        for (const [name, story, before] of [["a line", example("lighthouse.z5"), ""], ["keys", MENU, "menu\n"]]) {
+            const typed = Buffer.concat([Buffer.from(before), input]);
+            wantSame(byModule(module, story, {}, typed), byProgram(story, [], typed), `input ${i} as ${name}`);
+        }
+        for (const size of [1, 3]) {
+            const [came, wanted] = [parts(input, size), [input]].map((it) => Buffer.concat([...linesOf(it)]));
+            want(same(came, wanted), `input ${i} in parts of ${size}`);
+        }
+    }
+}
+
+/** Bytes in a thousand parts of a size, and the rest. */
+function parts(bytes, size) {
+    const first = Array.from({ length: 1000 }, (_, i) => bytes.subarray(i * size, (i + 1) * size));
+    return [...first, bytes.subarray(1000 * size)];
+}
+
+/** The command web/play.js ends as `zkit play`: its text, its status and its last line, and what it writes. */
+function commands() {
+    const file = (name, bytes) => (fs.writeFileSync(path.join(FOLDER, name), bytes), path.join(FOLDER, name));
+    const [menu, z5] = [file("menu.z5", MENU), path.join(EXAMPLES, "lighthouse.z5")];
+    const script = Buffer.from(example("lighthouse.z5"));
+    script[17] |= 1;
+    const tries = [
+        [[menu], "roll\nbreak\n"], [["--seed", "4294967303", menu], "roll\n"], [["--steps", "99", menu], "turn\n"],
+        [["--frames", "1", z5], "look\n"], [["--words", "20", z5], "look\n"], [["--upper", z5], "north\nlook\n"],
+        [["--undo", "0", z5], "undo on\nlook\nundo\n"], [["--undo", "1", z5], "undo on\nlook\nlook\nundo\nundo\n"],
+        [[z5], "save\nrestore\n"], [["--save", "@", z5], "open bag\nsave\nnorth\nrestore\nlook\n"],
+        [["--save", "/nowhere/x", z5], "save\nrestore\n"], [["--script", "/nowhere/x", z5], "look\n"],
+        [["--script", "@", file("scripted.z5", script)], "look\n"], [["/nowhere/x.z5"], ""], [[z5], "x".repeat(65_536)],
+        [[file("none.z5", "A text that is no story.")], ""], [[file("six.z6", Buffer.alloc(99, 6))], ""],
+    ];
+    const kept = path.join(FOLDER, "kept.command");
+    for (const [words, input] of tries) {
+        const all = words.map((word) => (word === "@" ? kept : word));
+        const starts = [[process.execPath, PLAY, "--module", MODULE], [PROGRAM, "play"]];
+        const [came, wanted] = starts.map(([command, ...front]) => {
+            const { stdout, stderr, status } = spawnSync(command, [...front, ...all], { input, maxBuffer: LONGEST });
+            const last = String(stderr).trimEnd().split("\n").pop();
+            return [status, LAST_LINE.test(last) ? last : "", String(stdout), String(taken(kept))].join("\n");
+        });
+        want(came === wanted, `web/play.js ${words.join(" ")}: ${came.slice(0, 40)} for ${wanted.slice(0, 40)}`);
+    }
+    for (const words of [[], ["--seed", "x", z5], ["--steps"], [z5, z5], ["--nothing", z5]])
+        want(spawnSync(process.execPath, [PLAY, ...words]).status === 1, `web/play.js ${words.join(" ")} is refused`);
+}
+
+/** SHA-256 of the page beside that of Node, about the ends of its blocks. */
+function sums() {
+    for (const length of [...Array.from({ length: 140 }, (_, i) => i), 1000, 65_535, 1_000_003]) {
+        const bytes = Buffer.from(Array.from({ length }, (_, i) => (i * 7 + length) & 0xff));
+        want(sumOf(bytes) === createHash("sha256").update(bytes).digest("hex"), `the sum of ${length} bytes`);
+    }
+    want(sumOf("Skärvø €") === createHash("sha256").update("Skärvø €").digest("hex"), "the sum of a text");
+}
+
+/** Status lines and a window whose figures differ. */
+function figures(module) {
+    for (const [flags, first, second, kind] of [[0, -5, 300, "score"], [2, 13, 5, "time"]]) {
+        const game = module.open(tellingStatus(flags, first, second));
+        game.turn();
+        const line = JSON.stringify({ kind, name: "ab", first, second });
+        want(JSON.stringify(game.statusLine()) === line, `a status line: ${kind}`);
+        want(!game.undo() && !game.saved(true) && !game.restore(null), "there is no state, and no saved game");
+        game.close();
+        game.close();
+        let thrown = "";
+        try {
+            game.turn();
+        } catch (error) {
+            thrown = error.message;
+        }
+        want(thrown === "the game is closed", "a game that is closed is not played");
+    }
+    // split_window 4; set_window 1; set_cursor 3 7; print_char 'c'; read_char 1 -> global 0
+    const story = telling(" ".repeat(9));
+    story.set([0xea, 0x7f, 4, 0xeb, 0x7f, 1, 0xef, 0x5f, 3, 7, 0xe5, 0x7f, 0x63, 0xf6, 0x7f, 1, 0x10, 0xba], 0x800);
+    const game = module.open(story);
+    want(game.turn() === "character", "a story reads while it writes in the window");
+    const window = { height: 4, tallest: 4, row: 3, column: 8, selected: true };
+    want(JSON.stringify(game.window()) === JSON.stringify(window), "a window");
+    want(game.rows().join() === ",,      c," && game.tallestRows().join() === ",,      c,", "its rows");
+    game.close();
 }
 
 /** A chunk of a Blorb file. */
@@ -502,8 +668,8 @@ async function worker() {
 
 async function main() {
     const tests = [
-        rows, examples, windows, listings, refusals, blorbs, snapshots, snapshotRefusals, thousand, large, full, worker,
-        generated,
+        rows, examples, windows, listings, refusals, wordsOfReasons, refusedFiles, limits, seeds, inputs, commands,
+        sums, figures, blorbs, snapshots, snapshotRefusals, thousand, large, full, worker, generated,
     ];
     for (const test of tests) {
         const begin = performance.now();

@@ -161,7 +161,7 @@ static uint8_t *save(const uint8_t *story, size_t length, size_t *size) {
     type(game, "save");
     show(game);
     uint8_t *file = image_of(game, size);
-    say("saved", zkit_saved(game, file != NULL));
+    say("saved, by any number but 0", zkit_saved(game, file ? 256 : 0));
     say("turn", zkit_turn(game));
     show(game);
     zkit_close(game);
@@ -275,6 +275,23 @@ static void refuse_options(const uint8_t *story, size_t length) {
     refuse_open("no room, for what is no story", story, 63, &options);
 }
 
+/* What zkit_defaults sets, whatever stands there before. */
+static void tell_defaults(void) {
+    zkit_options options;
+    puts("the options that are usual");
+    memset(&options, 0xff, sizeof options);
+    options.size = sizeof options;
+    zkit_defaults(&options);
+    say("size", options.size == sizeof options);
+    say("seed", (size_t)options.seed);
+    say("frames", options.frames);
+    say("words", options.words);
+    say("undo", options.undo);
+    say("steps", options.steps);
+    say("room", options.room);
+    say("upper", options.upper);
+}
+
 /* Why no game is opened from a snapshot of no bytes. */
 static uint32_t refused_snapshot(const uint8_t *story, size_t length, const zkit_options *options) {
     uint32_t reason = 99;
@@ -323,6 +340,9 @@ static void size_answers(const uint8_t *story, size_t length) {
     say("a window without its last field", window.height);
     zkit_status_line(game, &figures);
     say("a status line with no size", figures.kind);
+    figures.size = offsetof(zkit_figures, second) + sizeof figures.second - 1;
+    zkit_status_line(game, &figures);
+    say("a status line without its last byte", figures.kind);
     memset(facts.later, 0xff, sizeof facts.later);
     zkit_story_of(game, &facts.known);
     say("a story without its last byte", facts.known.release);
@@ -331,6 +351,106 @@ static void size_answers(const uint8_t *story, size_t length) {
     say("with later fields", facts.known.release);
     say("these are as they were", facts.later[0] == 0xff);
     say("and the size", facts.known.size == sizeof facts);
+    zkit_close(game);
+}
+
+/* Runs the story of some code with options to its first read or its stop. */
+static void run_with(const char *what, const uint8_t *code, size_t count, const zkit_options *options) {
+    puts(what);
+    zkit *game = opened_code(code, count, options);
+    say("turn", zkit_turn(game));
+    show(game);
+    say("status", zkit_status(game));
+    say("reason", zkit_reason(game));
+    zkit_close(game);
+}
+
+/* The first random numbers from 1 to 100 by a seed. docs/DECISIONS.md has the rule that gives them. */
+static void use_seeds(void) {
+    /* three times: random 100 -> global 16; print_num global 16; print_char ' '. Then quit */
+    const uint8_t code[] = {0xe7, 0x7f, 0x64, 0x10, 0xe6, 0xbf, 0x10, 0xe5, 0x7f, 0x20, 0xe7,
+                            0x7f, 0x64, 0x10, 0xe6, 0xbf, 0x10, 0xe5, 0x7f, 0x20, 0xe7, 0x7f,
+                            0x64, 0x10, 0xe6, 0xbf, 0x10, 0xe5, 0x7f, 0x20, 0xba};
+    zkit_options options = defaults();
+    run_with("numbers by the seed that is usual", code, sizeof code, NULL);
+    options.seed = 7;
+    run_with("numbers by the seed 7", code, sizeof code, &options);
+    options.seed = 4294967303;
+    run_with("numbers by the seed 4294967303, which is 7 above 2 to the power of 32", code, sizeof code, &options);
+    options.seed = UINT64_MAX;
+    run_with("numbers by the greatest seed", code, sizeof code, &options);
+}
+
+/* Limits that a story meets: each call and each word of the stack shows a letter. */
+static void use_limits(void) {
+    /* call_1n 00810; at 00810 a routine: print_char 'f'; call_1n 00810 */
+    const uint8_t calls[] = {0x8f, 0x02, 0x04, 0xba, [16] = 0x00, 0xe5, 0x7f, 0x66, 0x8f, 0x02, 0x04, 0xb0};
+    /* push 1; print_char 'w'; jump back to the push */
+    const uint8_t words[] = {0xe8, 0x7f, 0x01, 0xe5, 0x7f, 0x77, 0x8c, 0xff, 0xf9};
+    zkit_options options = defaults();
+    options.frames = 3;
+    options.words = 4;
+    run_with("three frames, of which the first is the story's", calls, sizeof calls, &options);
+    run_with("four words", words, sizeof words, &options);
+}
+
+/* A story that keeps three states, each before a read: there are as many to go back to as the option says. */
+static void use_states(uint32_t undo) {
+    /* three times: save_undo -> global 16; read_char 1 -> global 17. Then quit */
+    const uint8_t code[] = {0xbe, 0x09, 0xff, 0x10, 0xf6, 0x7f, 0x01, 0x11, 0xbe, 0x09, 0xff, 0x10,
+                            0xf6, 0x7f, 0x01, 0x11, 0xbe, 0x09, 0xff, 0x10, 0xf6, 0x7f, 0x01, 0x11, 0xba};
+    zkit_options options = defaults();
+    size_t count = 0;
+    options.undo = undo;
+    zkit *game = opened_code(code, sizeof code, &options);
+    for (int i = 0; i < 2; i++)
+        if (zkit_turn(game) == ZKIT_AWAITS_CHARACTER)
+            zkit_character(game, 'x');
+    while (zkit_turn(game) == ZKIT_AWAITS_CHARACTER && zkit_undo(game) == ZKIT_DONE)
+        count++;
+    say("states", count);
+    zkit_close(game);
+}
+
+/* The upper window is a part of the text where the option is not 0. */
+static void use_upper(void) {
+    /* split_window 1; set_window 1; print_char 'u'; set_window 0; print_char 'a'; read_char 1 -> global 16; quit */
+    const uint8_t code[] = {0xea, 0x7f, 0x01, 0xeb, 0x7f, 0x01, 0xe5, 0x7f, 0x75, 0xeb, 0x7f, 0x00,
+                            0xe5, 0x7f, 0x61, 0xf6, 0x7f, 0x01, 0x10, 0xba};
+    zkit_options options = defaults();
+    run_with("without the upper window", code, sizeof code, &options);
+    options.upper = 1;
+    run_with("with the upper window", code, sizeof code, &options);
+    options.upper = 256;
+    run_with("with it by another number", code, sizeof code, &options);
+}
+
+/* Each option does what it says. */
+static void use_options(void) {
+    use_seeds();
+    use_limits();
+    puts("states to go back to, of three");
+    for (uint32_t undo = 0; undo <= 4; undo++)
+        use_states(undo);
+    use_upper();
+}
+
+/* A story that runs 12,001,201 instructions, and then ends. */
+static void run_long(void) {
+    /* store global 16, 0; inc_chk global 16, 30000, and again up to that; inc_chk global 17, 399, and all again up to
+     * that; quit */
+    const uint8_t code[] = {0x0d, 0x10, 0x00, 0xc5, 0x4f, 0x10, 0x75, 0x30, 0x3f, 0xfb,
+                            0xc5, 0x4f, 0x11, 0x01, 0x8f, 0x3f, 0xf1, 0xba};
+    zkit_options options = defaults();
+    options.steps = 1000000000;
+    run_with("twelve million instructions", code, sizeof code, &options);
+    options.steps = 12001200;
+    run_with("one more than the limit", code, sizeof code, &options);
+    options.steps = 12001201;
+    run_with("as many as the limit", code, sizeof code, &options);
+    zkit *game = opened_code(code, sizeof code, &options);
+    say("all but one in a slice", zkit_turn_for(game, 12001200));
+    say("the last one", zkit_turn_for(game, 1));
     zkit_close(game);
 }
 
@@ -349,6 +469,32 @@ static void type_character(void) {
     size_t count = zkit_transcript(game, buffer, sizeof buffer);
     printf("  transcript: %.*s\n", (int)count, (const char *)buffer);
     say("more of it", zkit_transcript(game, buffer, sizeof buffer));
+    tell(game);
+    zkit_close(game);
+}
+
+/* A character that stories have none for is a question mark, though its last byte is a letter's. */
+static void type_another_character(void) {
+    /* read_char 1 -> global 16; print_char global 16; quit */
+    const uint8_t code[] = {0xf6, 0x7f, 0x01, 0x10, 0xe5, 0xbf, 0x10, 0xba};
+    puts("a character that the story has not");
+    zkit *game = opened_code(code, sizeof code, NULL);
+    say("turn", zkit_turn(game));
+    say("character", zkit_character(game, 0x6161));
+    say("turn", zkit_turn(game));
+    show(game);
+    zkit_close(game);
+}
+
+/* A story whose fault lies above 64 KB: call_1n 10000; there a routine with an opcode that there is not. */
+static void fault_high(void) {
+    static uint8_t story[0x10000 + SMALL];
+    const uint8_t code[] = {0x8f, 0x40, 0x00};
+    make_story(story, code, sizeof code);
+    memcpy(story + 0x10000, (uint8_t[]){0x00, 0x00, 0x01, 0x02, 0x00}, 5);
+    puts("a fault in high memory");
+    zkit *game = opened(story, sizeof story, NULL);
+    say("turn", zkit_turn(game));
     tell(game);
     zkit_close(game);
 }
@@ -425,6 +571,46 @@ static void draw_box(void) {
     zkit_close(game);
 }
 
+/* A window of which no two figures are the same: the story is still writing in it. */
+static void tell_window(void) {
+    /* split_window 4; set_window 1; set_cursor 3 7; print_char 'c'; read_char 1 -> global 16; quit */
+    const uint8_t code[] = {0xea, 0x7f, 0x04, 0xeb, 0x7f, 0x01, 0xef, 0x5f, 0x03, 0x07,
+                            0xe5, 0x7f, 0x63, 0xf6, 0x7f, 0x01, 0x10, 0xba};
+    uint8_t row[240];
+    puts("a window");
+    zkit *game = opened_code(code, sizeof code, NULL);
+    say("turn", zkit_turn(game));
+    show_window(game);
+    show_row("its third row now", zkit_row(game, 3, row, sizeof row), row);
+    say("a row below it", zkit_row(game, 5, row, sizeof row));
+    zkit_close(game);
+}
+
+/* A status line of a story of version 3 whose place is "ab": its score and turns, or its hours and minutes. */
+static void tell_figures(const char *what, uint8_t flags, uint16_t first, uint16_t second) {
+    /* sread 00200 00300; quit */
+    const uint8_t code[] = {0xe4, 0x0f, 0x02, 0x00, 0x03, 0x00, 0xba};
+    const uint8_t globals[] = {0, 1, (uint8_t)(first >> 8), (uint8_t)first, (uint8_t)(second >> 8), (uint8_t)second};
+    zkit_figures figures = {.size = sizeof figures};
+    uint8_t story[SMALL], name[240];
+    make_story(story, code, sizeof code);
+    story[0] = 3;
+    story[1] = flags;
+    story[0x200] = 20;
+    story[0x300] = 5;
+    memcpy(story + 0x13e + 7, (uint8_t[]){0x01, 0x80}, 2); /* the properties of the first object: 00180 */
+    memcpy(story + 0x180, (uint8_t[]){0x01, 0x98, 0xe5}, 3);
+    memcpy(story + 0x400, globals, sizeof globals);
+    zkit *game = opened(story, sizeof story, NULL);
+    puts(what);
+    say("turn", zkit_turn(game));
+    zkit_status_line(game, &figures);
+    say("kind", figures.kind);
+    printf("  figures: %d, %d\n", (int)figures.first, (int)figures.second);
+    show_row("name", zkit_status_name(game, name, sizeof name), name);
+    zkit_close(game);
+}
+
 /* The status line of a story of version 3, in its parts. */
 static void show_status_line(const uint8_t *story, size_t length) {
     zkit_figures figures = {.size = sizeof figures, .kind = 9, .first = 9, .second = 9};
@@ -469,6 +655,17 @@ static void undo_from(const char *what, zkit *game, const uint8_t *story, size_t
     zkit_close(other);
 }
 
+/* The shorter call for a snapshot has no states. */
+static void undo_from_plain(zkit *game, const uint8_t *story) {
+    static uint8_t kept[SMALL * 16];
+    size_t size = 0;
+    puts("a snapshot without states");
+    say("kept", zkit_snapshot(game, kept, sizeof kept, &size));
+    zkit *other = zkit_open_snapshot(story, SMALL, kept, size, NULL, NULL);
+    say("undo", zkit_undo(other));
+    zkit_close(other);
+}
+
 /* States to go back to are in a snapshot as far as they fit. */
 static void undo_from_snapshots(void) {
     /* save_undo -> global 16; print_num global 16; read_char 1 -> global 17; quit */
@@ -480,19 +677,70 @@ static void undo_from_snapshots(void) {
     show(game);
     undo_from("a snapshot with a state", game, story, SIZE_MAX);
     undo_from("a snapshot without room for it", game, story, 19);
+    undo_from_plain(game, story);
+    /* 82,007 and dynamic memory, 10 for each frame, 2 for each word */
+    say("the longest", zkit_longest_snapshot(game, 0) - 82007 - 0x800);
+    say("the same of the limits", 10 * ZKIT_FRAMES + 2 * ZKIT_WORDS);
+    say("with 19 bytes of states", zkit_longest_snapshot(game, 19) - zkit_longest_snapshot(game, 0));
+    say("with all that there may be", zkit_longest_snapshot(game, SIZE_MAX) == SIZE_MAX);
     zkit_close(game);
 }
 
 /* Says why a snapshot is refused, or that it is opened, where its limits may be these at most. */
 static void open_within(const char *what, const uint8_t *story, size_t length, const uint8_t *kept, size_t size,
-                        uint32_t frames, uint32_t undo) {
-    zkit_options options = {sizeof options, 0, 0, 0, 0, 0, 0, 0};
+                        zkit_options options) {
     uint32_t reason = 99;
-    zkit_defaults(&options);
-    options.frames = frames;
-    options.undo = undo;
     zkit_close(zkit_open_snapshot(story, length, kept, size, &options, &reason));
     say(what, reason);
+}
+
+/* The limits of zkit_defaults, but for one. */
+static zkit_options within(uint32_t frames, uint32_t words, uint32_t undo, uint32_t steps) {
+    zkit_options options = defaults();
+    options.frames = frames;
+    options.words = words;
+    options.undo = undo;
+    options.steps = steps;
+    return options;
+}
+
+/* A game with the greatest limits is opened again by its snapshot where nothing is said of them, and only there. */
+static void open_greatest(const uint8_t *story, size_t length) {
+    static uint8_t kept[SMALL * 16];
+    zkit_options greatest = within(65535, 65535, 64, 1000000000), usual = defaults();
+    size_t size = 0;
+    puts("a snapshot with the greatest limits");
+    zkit *game = opened(story, length, &greatest);
+    say("turn", zkit_turn(game));
+    say("kept", zkit_snapshot(game, kept, sizeof kept, &size));
+    zkit_close(game);
+    uint32_t reason = 99;
+    zkit_close(zkit_open_snapshot(story, length, kept, size, NULL, &reason));
+    say("opened without options", reason);
+    open_within("opened within the greatest limits", story, length, kept, size, greatest);
+    open_within("opened within the usual ones", story, length, kept, size, usual);
+}
+
+/* A game that goes on from a snapshot has the room that the options say. */
+static void fill_room_from_snapshot(void) {
+    /* read_char 1 -> global 16; print_char 'a'; jump back to it */
+    const uint8_t code[] = {0xf6, 0x7f, 0x01, 0x10, 0xe5, 0x7f, 0x61, 0x8c, 0xff, 0xfc};
+    static uint8_t kept[SMALL * 16];
+    uint8_t story[SMALL], text[100];
+    zkit_options options = defaults();
+    size_t size = 0;
+    make_story(story, code, sizeof code);
+    zkit *game = opened(story, sizeof story, NULL);
+    puts("room for the text of a game that goes on");
+    say("turn", zkit_turn(game));
+    say("kept", zkit_snapshot(game, kept, sizeof kept, &size));
+    zkit_close(game);
+    options.room = 10;
+    zkit *other = zkit_open_snapshot(story, sizeof story, kept, size, &options, NULL);
+    say("character", zkit_character(other, 'x'));
+    say("turn", zkit_turn(other));
+    say("text", zkit_text(other, text, sizeof text));
+    zkit_close(other);
 }
 
 /* Says why a snapshot is refused, or that it is opened and awaits a line. */
@@ -519,11 +767,14 @@ static void keep_snapshots(const uint8_t *story, size_t length, const uint8_t *o
     say("just long enough", zkit_snapshot(game, kept, size, &size));
     zkit_close(game);
     open_snapshot("opened", story, length, kept, size);
-    open_within("opened within its limits", story, length, kept, size, ZKIT_FRAMES, ZKIT_UNDO);
-    open_within("a frame fewer", story, length, kept, size, ZKIT_FRAMES - 1, ZKIT_UNDO);
-    open_within("a state fewer", story, length, kept, size, ZKIT_FRAMES, ZKIT_UNDO - 1);
-    open_within("too many states, and no snapshot", story, length, story, length, ZKIT_FRAMES, 65);
-    open_within("a frame fewer, and no snapshot", story, length, story, length, ZKIT_FRAMES - 1, ZKIT_UNDO);
+    open_within("opened within its limits", story, length, kept, size, defaults());
+    open_within("a frame fewer", story, length, kept, size, within(ZKIT_FRAMES - 1, ZKIT_WORDS, ZKIT_UNDO, ZKIT_STEPS));
+    open_within("a word fewer", story, length, kept, size, within(ZKIT_FRAMES, ZKIT_WORDS - 1, ZKIT_UNDO, ZKIT_STEPS));
+    open_within("a state fewer", story, length, kept, size, within(ZKIT_FRAMES, ZKIT_WORDS, ZKIT_UNDO - 1, ZKIT_STEPS));
+    open_within("a step fewer", story, length, kept, size, within(ZKIT_FRAMES, ZKIT_WORDS, ZKIT_UNDO, ZKIT_STEPS - 1));
+    open_within("too many states, and no snapshot", story, length, story, length, within(1, 0, 65, 1));
+    open_within("a frame fewer, and no snapshot", story, length, story, length,
+                within(ZKIT_FRAMES - 1, ZKIT_WORDS, ZKIT_UNDO, ZKIT_STEPS));
     open_snapshot("of another story", other, other_length, kept, size);
     open_snapshot("one byte less", story, length, kept, size - 1);
     open_snapshot("no bytes", story, length, NULL, 0);
@@ -711,16 +962,26 @@ int main(int count, char **words) {
     refuse(lighthouse, length);
     refuse_stories();
     refuse_options(lighthouse, length);
+    tell_defaults();
     size_options(lighthouse, length);
     size_answers(lighthouse, length);
+    use_options();
+    run_long();
     type_character();
+    type_another_character();
+    fault_high();
     run_slices();
     fill_room();
     draw_box();
+    tell_window();
+    tell_figures("a score below 0", 0, 0xfffb, 300);
+    tell_figures("a time", 2, 13, 5);
     show_status_line(other, read_story(words[2], other));
     undo();
     undo_from_snapshots();
     keep_snapshots(lighthouse, length, other, read_story(words[2], other));
+    open_greatest(lighthouse, length);
+    fill_room_from_snapshot();
     tell_story(lighthouse, length);
     refuse_listings(lighthouse, length);
     bound_listing();

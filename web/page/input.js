@@ -66,8 +66,11 @@ export class Input {
 
     show() {
         form.hidden = false;
-        if (!document.querySelector("dialog[open]"))
-            line.focus({ preventScroll: true });
+        if (document.querySelector("dialog[open]"))
+            return;
+        line.focus({ preventScroll: true });
+        // (Chromium gives the focus back where a window is closed by the mouse, but not the caret)
+        line.setSelectionRange(line.selectionStart, line.selectionEnd);
     }
 
     /** Awaits nothing for now; what is typed meanwhile stays. */
@@ -142,7 +145,7 @@ export class Input {
     keyAnywhere(event) {
         const target = /** @type {HTMLElement} */ (event.target);
         const code = codeOf(event);
-        if (code === null || !this.awaits || isTaken(target))
+        if (code === null || !this.awaits || isTaken(target, code))
             return;
         if (this.awaits === "character") {
             event.preventDefault();
@@ -166,10 +169,11 @@ function codeOf(event) {
 }
 
 /**
- * Whether something else takes the keys that are pressed.
+ * Whether something else takes the key that is pressed: of all keys, a button and a link take Enter and Space.
  * @param {HTMLElement} target
+ * @param {number} code
  */
-function isTaken(target) {
-    const taker = target.closest("input, button, select, a, dialog") || document.querySelector("dialog[open]");
-    return taker !== null;
+function isTaken(target, code) {
+    const takers = code === ENTER || code === SPACE ? "input, select, button, a" : "input, select";
+    return target.closest(takers) !== null || document.querySelector("dialog[open]") !== null;
 }

@@ -11,7 +11,7 @@ const SLICE = 500000;
 const ROOM = 32768;
 
 /** A snapshot has the limits that the page gave its story, which may be any. */
-const ANY = { frames: 65_535, words: 65_535, undo: 64, steps: 1_000_000_000, room: ROOM };
+const ANY = { frames: 65535, words: 65535, undo: 64, steps: 1000000000, room: ROOM };
 
 /** So many characters come at most before the reader is asked whether to go on. */
 const PAUSE = 200000;

@@ -49,12 +49,12 @@ async function through(page, look) {
     await page.open(MENU);
     await page.sayAll(["hello", "roll"]);
     await look("the play");
-    for (const [button, window] of [["show-menu", "menu"], ["show-lines", "lines"], ["show-saves", "restoring"]]) {
-        await page.click(`#${button}`);
+    for (const [open, window] of [["", "menu"], ["menu-lines", "lines"], ["show-saves", "restoring"]]) {
+        await (open ? page.menu(open) : page.click("#show-menu"));
         await page.shown(window);
         await pause(150);
         await look(window);
-        await page.run((id) => document.getElementById(id).close(), window);
+        await page.leave();
     }
     await page.click("#show-inside");
     for (const name of ["findings", "header", "map", "tree", "code"]) {
@@ -63,7 +63,7 @@ async function through(page, look) {
         await pause(150);
         await look(`inside: ${name}`);
     }
-    await page.run(() => document.getElementById("inside").close());
+    await page.leave();
     await page.say("break");
     await look("the end");
 }

@@ -9,8 +9,15 @@ const PROGRAMS = ["/usr/lib/chromium/chromium", "/usr/bin/chromium", "/usr/bin/c
 const KEYS = {
     Enter: ["Enter", 13, "\r"], Tab: ["Tab", 9, ""], Escape: ["Escape", 27, ""], " ": ["Space", 32, " "],
     ArrowUp: ["ArrowUp", 38, ""], ArrowDown: ["ArrowDown", 40, ""], ArrowRight: ["ArrowRight", 39, ""],
+    ArrowLeft: ["ArrowLeft", 37, ""], Backspace: ["Backspace", 8, ""],
     PageUp: ["PageUp", 33, ""], PageDown: ["PageDown", 34, ""], Home: ["Home", 36, ""], End: ["End", 35, ""],
 };
+
+/** What a key is by its name: its place, its number and its text. Only letters and digits have a number that is theirs. */
+function keyOf(name) {
+    const upper = name.toUpperCase();
+    return KEYS[name] || [`Key${upper}`, /^[A-Z0-9]$/.test(upper) ? upper.charCodeAt(0) : 0, name];
+}
 
 export function program() {
     return process.env.CHROMIUM || PROGRAMS.find((path) => existsSync(path));
@@ -110,14 +117,20 @@ export class Chromium {
     }
 
     async write(text) {
-        await this.call("Input.insertText", { text });
+        await Promise.all([...text].map((key) => this.press(key)));
     }
 
     async press(key, isShifted = false) {
-        const [code, number, text] = KEYS[key] || [`Key${key.toUpperCase()}`, key.toUpperCase().charCodeAt(0), key];
+        const [code, number, text] = keyOf(key);
         const it = { key, code, windowsVirtualKeyCode: number, modifiers: isShifted ? 8 : 0 };
-        await this.call("Input.dispatchKeyEvent", { type: text ? "keyDown" : "rawKeyDown", text: text || undefined, ...it });
-        await this.call("Input.dispatchKeyEvent", { type: "keyUp", ...it });
+        const down = { type: text ? "keyDown" : "rawKeyDown", text: text || undefined, ...it };
+        await Promise.all([down, { type: "keyUp", ...it }].map((event) => this.call("Input.dispatchKeyEvent", event)));
+    }
+
+    /** Clicks at a place by the mouse. */
+    async mouse(x, y) {
+        const events = ["mouseMoved", "mousePressed", "mouseReleased"].map((type) => ({ type, x, y, button: "left", clickCount: 1 }));
+        await Promise.all(events.map((event) => this.call("Input.dispatchMouseEvent", event)));
     }
 
     async choose(id, path) {

@@ -9,7 +9,7 @@ import { join } from "node:path";
 const PROGRAMS = ["/usr/bin/firefox-esr", "/usr/bin/firefox"];
 const KEYS = {
     Enter: "\uE007", Tab: "\uE004", Escape: "\uE00C", ArrowUp: "\uE013", ArrowDown: "\uE015", ArrowRight: "\uE014",
-    PageUp: "\uE00E", PageDown: "\uE00F", Home: "\uE011", End: "\uE010",
+    ArrowLeft: "\uE012", Backspace: "\uE003", PageUp: "\uE00E", PageDown: "\uE00F", Home: "\uE011", End: "\uE010",
 };
 const SHIFT = "\uE008";
 const ELEMENT = "element-6066-11e4-a52e-4f735466cecf";
@@ -141,6 +141,12 @@ export class Firefox {
     async press(key, isShifted = false) {
         const shift = [{ type: "keyDown", value: SHIFT }];
         await this.keys(KEYS[key] || key, isShifted ? shift : [], isShifted ? [{ ...shift[0], type: "keyUp" }] : []);
+    }
+
+    /** Clicks at a place by the mouse. */
+    async mouse(x, y) {
+        const actions = [{ type: "pointerMove", x, y }, { type: "pointerDown", button: 0 }, { type: "pointerUp", button: 0 }];
+        await this.wire.send("WebDriver:PerformActions", { actions: [{ type: "pointer", id: "mouse", actions }] });
     }
 
     async choose(id, path) {

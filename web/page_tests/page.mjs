@@ -9,7 +9,7 @@ export const ROOT = join(fileURLToPath(import.meta.url), "../../..");
 export const EXAMPLES = join(ROOT, "examples");
 export const MENU = join(ROOT, "web/page_tests/menu.z5");
 const ZKIT = join(ROOT, "dist/zkit");
-const LONGEST_WAIT = 20000;
+const LONGEST_WAIT = 40000;
 
 export const pause = (time) => new Promise((resolve) => setTimeout(resolve, time));
 
@@ -37,6 +37,16 @@ export function same(found, wanted, what = "it") {
 export function holds(condition, words) {
     if (!condition)
         throw new Error(words);
+}
+
+/** In the page: where an element may be clicked; null where it is not seen, or something lies over it. */
+function placeInPage(selector) {
+    const it = document.querySelector(selector);
+    it.scrollIntoView({ block: "nearest" });
+    const { left, top, width, height } = it.getBoundingClientRect();
+    const place = [left + width / 2, top + height / 2].map(Math.round);
+    const found = width > 0 && document.elementFromPoint(...place);
+    return found && it.contains(found) ? place : null;
 }
 
 export class Page {
@@ -105,13 +115,36 @@ export class Page {
         return this.until((name) => document.getElementById(name).getClientRects().length > 0, id);
     }
 
-    click(selector) {
-        return this.run((it) => document.querySelector(it).click(), selector);
+    /** Clicks by the mouse on the first element of a kind, once it is seen and nothing lies over it. */
+    async click(selector) {
+        await this.browser.mouse(...await this.until(placeInPage, selector));
     }
 
-    async clickShown(id) {
-        await this.shown(id);
+    /** Chooses a button of the menu. */
+    async menu(id) {
+        await this.click("#show-menu");
         await this.click(`#${id}`);
+    }
+
+    /** Opens the list of lines, which comes once its link is made. */
+    async lines() {
+        await this.click("#show-lines");
+        await this.shown("lines");
+    }
+
+    /** Leaves the window that is open. */
+    async leave() {
+        await this.browser.press("Escape");
+        await this.until(() => !document.querySelector("dialog[open]"));
+    }
+
+    /** Types into a field in place of what stands there. */
+    async fill(id, text) {
+        await this.click(`#${id}`);
+        await this.browser.press("End");
+        for (let left = await this.run((name) => document.getElementById(name).value.length, id); left > 0; left--)
+            await this.browser.press("Backspace");
+        await this.browser.write(text);
     }
 
     /** Until the story awaits a line or a key, or has ended. */
@@ -119,6 +152,20 @@ export class Page {
         return this.until(() => document.getElementById("log").getAttribute("aria-busy") === "false"
             && ["ask", "over", "running"].some((id) => !document.getElementById(id).hidden)
             || document.querySelector("dialog[open]") !== null);
+    }
+
+    /** Until the browser has kept a play with so many lines and keys. */
+    keeps(count) {
+        return this.until((wanted) => new Promise((resolve) => {
+            const request = indexedDB.open("zkit");
+            request.onsuccess = () => {
+                request.result.transaction("plays").objectStore("plays").getAll().onsuccess = ({ target: { result } }) => {
+                    request.result.close();
+                    const reads = (it) => it.answers.filter((answer) => typeof answer !== "object" || "undo" in answer).length;
+                    resolve(result.some((it) => it.answers && reads(it) === wanted));
+                };
+            };
+        }), count);
     }
 
     async choose(path, id = "story-file") {
@@ -142,9 +189,8 @@ export class Page {
         }, Buffer.from(bytes).toString("base64"), name);
     }
 
-    /** Types a line into the field. */
+    /** Types a line where the page has put the focus. */
     async send(line) {
-        await this.run(() => document.getElementById("line").focus());
         if (line)
             await this.browser.write(line);
         await this.browser.press("Enter");
@@ -182,7 +228,7 @@ export class Page {
     }
 
     async transcript() {
-        return readFileSync(await this.fileAfter(() => this.click("#transcript")), "utf8");
+        return readFileSync(await this.fileAfter(() => this.menu("transcript")), "utf8");
     }
 
     /** The text of the log in the page, without what was typed. */

@@ -15,11 +15,7 @@ async function play(page, story, lines) {
 async function inside(page, tab) {
     await page.click("#show-inside");
     await page.until(() => document.getElementById("panel").getAttribute("aria-busy") === "false");
-    await page.run((name) => {
-        const it = document.getElementById(`tab-${name}`);
-        it.focus();
-        it.click();
-    }, tab);
+    await page.click(`#tab-${tab}`);
     await page.until(() => document.getElementById("panel").getAttribute("aria-busy") === "false");
 }
 

@@ -46,7 +46,7 @@ function runTool([name, program, words]) {
 }
 
 /** So many milliseconds a test may take; a browser that takes longer does not answer any more. */
-const LIMIT = 60000;
+const LIMIT = 180000;
 const LATE = `nothing came in ${LIMIT / 1000} s`;
 
 /** What a promise gives, where it comes in time. */

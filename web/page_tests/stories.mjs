@@ -1,0 +1,72 @@
+// Small stories that a test makes: of version 5, with their code at 00800 and the buffer of a line at 00200.
+
+const CODE = 0x800;
+const LINE = 0x200;
+const READ = [0xe4, 0x1f, LINE >> 8, LINE & 0xff, 0, 0x10];
+const NEW_LINE = 13;
+
+/** print_char for each character of a text. */
+function printed(text) {
+    return [...text].flatMap((letter) => [0xe5, 0x7f, letter === "\n" ? NEW_LINE : letter.charCodeAt(0)]);
+}
+
+/** A word of 16 bits, as two bytes. */
+function word(value) {
+    return [value >> 8 & 0xff, value & 0xff];
+}
+
+/** A jump back over so many bytes before it. */
+function jumpBack(count) {
+    return [0x8c, ...word(-count - 1)];
+}
+
+function storyOf(code) {
+    const story = Buffer.alloc(CODE + code.length);
+    story[0] = 5;
+    story.set([0x08, 0, 0x08, 0], 4);
+    story.set([0x01, 0, 0x04, 0, 0x08, 0], 0x0a);
+    story[0x19] = 0x40;
+    story.write("261129", 0x12, "latin1");
+    story[LINE] = 80;
+    story.set(code, CODE);
+    return story;
+}
+
+/** A story that prints a text, and then reads lines. */
+export function telling(text) {
+    return storyOf([...printed(text), ...READ, ...jumpBack(READ.length)]);
+}
+
+/** A story that prints a text so many times before each line that it reads. */
+export function repeating(text, count) {
+    const print = printed(text);
+    // inc_chk global 1, count ?~ back to the text
+    const back = [0xc5, 0x4f, 0x11, ...word(count - 1), ...word(-(print.length + 5) & 0x3fff)];
+    const all = [0x0d, 0x11, 0, ...print, ...back, ...READ];
+    return storyOf([...all, ...jumpBack(all.length)]);
+}
+
+/** A story that reads a line, and then saves again and again, whatever is answered. */
+export function asking() {
+    return storyOf([...printed(">"), ...READ, 0xbe, 0x00, 0xff, 0x10, ...jumpBack(4)]);
+}
+
+/** A story that runs twelve million instructions and prints a text before each line that it reads. */
+export function counting(text) {
+    // store global 1, 0; store global 0, 0; inc_chk global 0, 30000 ?~ again; inc_chk global 1, 399 ?~ back to the second one
+    const count = [0x0d, 0x11, 0, 0x0d, 0x10, 0, 0xc5, 0x4f, 0x10, 0x75, 0x30, 0x3f, 0xfb, 0xc5, 0x4f, 0x11, 0x01, 0x8f, 0x3f, 0xf1];
+    const all = [...count, ...printed(text), ...READ];
+    return storyOf([...all, ...jumpBack(all.length)]);
+}
+
+/** A story of version 3 whose place is "ab", with two figures of its status line. */
+export function tellingStatus(flags, first, second) {
+    const code = [...printed("A room.\n>"), 0xe4, 0x0f, LINE >> 8, LINE & 0xff, 0x03, 0x00];
+    const story = storyOf([...code, ...jumpBack(6)]);
+    story.set([3, flags]);
+    story[0x300] = 5;
+    story.set([0x01, 0x80], 0x13e + 7);
+    story.set([0x01, 0x98, 0xe5], 0x180);
+    story.set([...word(1), ...word(first), ...word(second)], 0x400);
+    return story;
+}
