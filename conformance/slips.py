@@ -224,16 +224,31 @@ def last_of(code: list[str], begin: int) -> int:
     return begin
 
 
+def has_rest(lines: list[str], code: list[str], at: int) -> bool:
+    """Whether a match has an arm for all else behind one that begins in a line."""
+    level, to = indent(lines[at]), last_of(code, at)
+    rest = code[to + 1:]
+    end = next((i for i, it in enumerate(rest) if it and indent(it) < level), len(rest))
+    return any(re.match(rf" {{{level}}}(?:_|[a-z]\w*)(?: if .*)? =>", it) for it in rest[:end])
+
+
 def arms(lines: list[str], code: list[str]) -> Iterator[Slip]:
     """An arm left out of a match that has one for all else."""
     for at, line in enumerate(code):
-        if " => " not in line or re.match(r"\s*(?:_ |[)}\]|])", line):
-            continue
-        level, to = indent(line), last_of(code, at)
-        rest = code[to + 1:]
-        end = next((i for i, it in enumerate(rest) if it and indent(it) < level), len(rest))
-        if any(re.match(rf" {{{level}}}(?:_|[a-z]\w*)(?: if .*)? =>", it) for it in rest[:end]):
-            yield without("arm", lines, at, to + 1)
+        if " => " in line and not re.match(r"\s*(?:_ |[)}\]|])", line) and has_rest(lines, code, at):
+            yield without("arm", lines, at, last_of(code, at) + 1)
+
+
+def leaves_some_out(slip: Slip, lines: list[str], code: list[str]) -> bool:
+    """Whether a slip changes a pattern of a match that has no arm for all else: no compiler takes that."""
+    at = slip.end - 1
+    while re.match(r"\s*\| (?!.* =>)", code[at]):
+        at += 1
+    if slip.rule not in ("logic", "option", "alternative", "member") or " =>" not in code[at]:
+        return False
+    olds, news = lines[slip.begin:slip.end], slip.lines or [""]
+    old, new = (re.split(r" =>| if ", it[-1], maxsplit=1)[0] for it in (olds, news))
+    return old != new and not has_rest(lines, code, at)
 
 
 # Statements.
@@ -283,6 +298,6 @@ def slips(lines: list[str], is_constant: bool, gives_nothing: bool) -> Iterator[
     """All slips in a function's body, which may give `Ok(())`, or in a constant."""
     code = code_of(lines, is_constant)
     for rule in RULES:
-        yield from rule(lines, code)
+        yield from (it for it in rule(lines, code) if not leaves_some_out(it, lines, code))
     if gives_nothing and len(lines) > 1:
         yield Slip("end", 0, len(lines), ["    Ok(())"], "the body", "Ok(())")
