@@ -1,5 +1,5 @@
-/* Tells the program which plant is on, by ZKIT_PLANT, and marks in the file ZKIT_REACHED which places of plants it has come
- * to. It makes no call that refused_calls.c or refused_memory.c counts. conformance/plant.py builds it. */
+/* Tells the program which plant is on, by ZKIT_PLANT, and marks in the file ZKIT_REACHED which places of plants it has
+ * come to. It makes no call that refused_calls.c or refused_memory.c counts. conformance/plant.py builds it. */
 #include <fcntl.h>
 #include <stdlib.h>
 #include <sys/mman.h>
