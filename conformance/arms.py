@@ -8,7 +8,7 @@ from __future__ import annotations
 import functools
 import pathlib
 import re
-from collections.abc import Callable, Iterable, Mapping, Sequence
+from collections.abc import Callable, Mapping, Sequence
 from dataclasses import dataclass, field
 
 from edits import BadEdit, Edit, edited
@@ -175,7 +175,9 @@ class Turned:
     def using(self, line: str) -> str:
         """A line of a body, where a constant that edits change is picked by the number."""
         for name, arms in self.constants().items():
-            line = picking(line, name, self.picked(arms), arms)
+            picks = " ".join(f"{number} => {name}_{number}," for number in arms)
+            pick = f"(match {self.picked(arms)} {{ {picks} _ => {name} }})"
+            line = outside_of_texts(line, rf"\b{name}\b", lambda _: pick)
         return line
 
 
@@ -183,17 +185,6 @@ def outside_of_texts(line: str, pattern: str, put: Callable[[str], str]) -> str:
     """A line where something else comes for what a pattern finds, but in its texts."""
     words = rf"""(b?"(?:[^"\\]|\\.)*"|b?'(?:[^'\\]|\\[^']+)')|{pattern}"""
     return re.sub(words, lambda it: it[0] if it[1] else put(it[0]), line)
-
-
-def picking(line: str, name: str, picked: str, numbers: Iterable[int], module: str = "") -> str:
-    """A line that picks a constant, or a reference to it, by the number that tells the change."""
-
-    def put(old: str) -> str:
-        sign = "&" if old[0] == "&" else ""
-        picks = " ".join(f"{number} => {sign}{module}{name}_{number}," for number in numbers)
-        return f"(match {picked} {{ {picks} _ => {old} }})"
-
-    return outside_of_texts(line, rf"&?\b{name}\b", put)
 
 
 def renamed(line: str, name: str, number: int) -> str:
