@@ -273,8 +273,8 @@ def effects(lines: list[str], code: list[str]) -> Iterator[Slip]:
 
 
 def orders(lines: list[str], code: list[str]) -> Iterator[Slip]:
-    """Two statements, each in the other's place."""
-    found = list(statements(code))
+    """Two calls, each in the other's place."""
+    found = [it for it in statements(code) if "(" in code[it[0]] and not code[it[0]].endswith("{")]
     for (begin, middle), (other, end) in zip(found, found[1:]):
         if middle == other and indent(code[begin]) == indent(code[other]):
             swapped = lines[other:end] + lines[begin:middle]
