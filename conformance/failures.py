@@ -75,7 +75,7 @@ def run(command: pathlib.Path, library: str, plan: Plan, number: int, saves: boo
         program = Program([str(command)], pathlib.Path(place), plan.before)
         if not saves:
             (program.folder / BESIDE).mkdir()
-        env = {"LD_PRELOAD": library, "REFUSED": str(number), "ASKED": "asked"}
+        env = {**os.environ, "LD_PRELOAD": library, "REFUSED": str(number), "ASKED": "asked"}
         try:
             ended = program.run(plan.words, plan.typed, env=env)
         except subprocess.TimeoutExpired:

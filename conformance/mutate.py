@@ -24,14 +24,14 @@ import sys
 import tempfile
 import time
 from collections.abc import Callable, Iterable
-from dataclasses import dataclass, field
 from subprocess import DEVNULL, PIPE, Popen
 from typing import IO, NamedTuple, NoReturn, Optional
 
 import run
 import test
+from arms import Turned, numbers_at
 from edits import BadEdit, Edit, edited, must_fail, mutants, refused, why_not
-from sources import FOLDER, TOP, crates, functions_of
+from sources import FOLDER, TOP, crates
 
 RUNNING: list[Popen[str]] = []  # the builds that this script has begun
 TEMPORARY: list[str] = []  # the folders that it has made
@@ -52,8 +52,6 @@ Outcomes = dict[int, Optional[str]]
 Bad = dict[int, str]
 # What is called with an edit's number and outcome, as soon as that is known.
 Tell = Callable[[int, Optional[str]], None]
-# A line of a source file, with the number of its edit, or 0.
-Line = tuple[int, str]
 
 
 class Way(NamedTuple):
@@ -99,164 +97,7 @@ def read_edits(only: list[str]) -> list[Edit]:
     return wanted
 
 
-# The parts of a source file: bodies of functions, constants, and all else.
-
-
-def listed(text: str) -> tuple[list[str], str]:
-    """The items of a list with commas, by whose bracket a text begins, and what stands behind it."""
-    items, depth, item = [], 0, ""
-    for i, sign in enumerate(text):
-        closes = sign in ")>]" and text[i - 1:i + 1] != "->"
-        depth += (sign in "(<[") - closes
-        if depth == 0 or depth == 1 and sign == ",":
-            items.append(item.strip())
-            item = ""
-        elif i:
-            item += sign
-        if depth == 0:
-            return [it for it in items if it], text[i + 1:]
-    raise BadEdit(f"a bracket is not closed: {text}")
-
-
-class Head:
-    """The head of a function, of which others with the same parameters can be made."""
-
-    def __init__(self, lines: list[str], is_method: bool) -> None:
-        text = ""
-        for line in lines:
-            text += line.strip() + " "
-            if "(" in text and text.count("(") == text.count(")"):
-                break
-        found = re.match(r"((?:pub(?:\(crate\))? )?fn )(\w+)(.*)", text.strip().removesuffix("{").strip())
-        if not found:
-            raise BadEdit(f"no function begins so: {text}")
-        self.front, self.name, self.rest = found.groups()
-        generics, parameters = listed(self.rest) if self.rest.startswith("<") else ([], self.rest)
-        kinds = [it.removeprefix("const ").partition(":")[0] for it in generics if not it.startswith("'")]
-        self.turbofish = f"::<{', '.join(kinds)}>" if kinds else ""
-        names = [it.partition(":")[0].removeprefix("mut ") for it in listed(parameters)[0]]
-        self.of = "self." if names and names[0].endswith("self") else "Self::" if is_method else ""
-        self.arguments = ", ".join(it for it in names if not it.endswith("self"))
-
-    def beside(self, number: int) -> str:
-        """The head of the function that an edit puts beside it."""
-        return f"{self.front}{self.name}_{number}{self.rest} {{"
-
-    def call(self, number: int) -> str:
-        """A call of such a function."""
-        return f"{self.of}{self.name}_{number}{self.turbofish}({self.arguments})"
-
-
-@dataclass
-class Part:
-    """Some lines of a source file. `kind` is `body`, `const` or `else`; `name` is the item's."""
-
-    kind: str
-    name: str = field(compare=False)
-    lines: list[str]
-    head: Head | None = field(default=None, compare=False)  # of a body, where others can stand beside its function
-
-
-CONSTANT = re.compile(r"(?:pub(?:\(crate\))? )?const (\w+): ")
-
-
-@functools.lru_cache(500)
-def parts_of(text: str) -> list[Part]:
-    """The parts of a source file."""
-    lines = text.split("\n")
-    found: list[tuple[int, int, str, str, Head | None]] = []
-    for it in functions_of(text):
-        if it.body < it.end:
-            fixed = it.block.is_trait or it.block.implements
-            head = None if fixed else Head(lines[it.begin:it.body], bool(it.block.owner))
-            found.append((it.body, it.end - 1, "body", it.name, head))
-    for at, line in enumerate(lines):
-        if constant := CONSTANT.match(line):
-            end = next(i for i in range(at, len(lines)) if lines[i].endswith(";"))
-            found.append((at, end + 1, "const", constant[1], None))
-    parts, at = [], 0
-    for begin, end, kind, name, head in sorted(found, key=lambda it: it[0]):
-        parts += [Part("else", "", lines[at:begin]), Part(kind, name, lines[begin:end], head)]
-        at = end
-    return [*parts, Part("else", "", lines[at:])]
-
-
 # A copy of the repository in which many edits can be turned on.
-
-
-class Turned:
-    """A source file with arms for edits: each part has the parts that stand in for it, by number."""
-
-    def __init__(self, text: str) -> None:
-        self.text = text
-        self.parts = parts_of(text)
-        self.arms: list[dict[int, Part]] = [{} for _ in self.parts]
-
-    def take(self, edit: Edit) -> bool:
-        """Adds the arms of an edit. Where it changes more than bodies and constants, answers False."""
-        new = parts_of(edited(edit, edit.files()[0], self.text))
-        if [(it.kind, it.name) for it in new] != [(it.kind, it.name) for it in self.parts]:
-            return False
-        changed = [i for i, it in enumerate(new) if it != self.parts[i]]
-        if any(new[i].kind == "else" for i in changed):
-            return False
-        for i in changed:
-            self.arms[i][edit.number] = new[i]
-        return True
-
-    def constants(self) -> dict[str, dict[int, Part]]:
-        """The arms of constants that edits change, by the constants' names."""
-        return {part.name: arms for part, arms in zip(self.parts, self.arms) if part.kind == "const" and arms}
-
-    def lines(self) -> list[Line]:
-        """The lines of the file."""
-        out: list[Line] = []
-        beside: list[Line] = []
-        for part, arms in zip(self.parts, self.arms):
-            if part.kind == "else":
-                # It begins with the end of the body before it.
-                out += [(0, it) for it in part.lines[:1]] + beside + [(0, it) for it in part.lines[1:]]
-                beside = []
-            elif part.kind == "const":
-                out += [(0, it) for it in part.lines]
-                for number, arm in arms.items():
-                    out += [(number, renamed(it, part.name, number)) for it in arm.lines]
-            elif not arms:
-                out += [(0, self.using(it)) for it in part.lines]
-            elif part.head:
-                # A function for each arm: what one function with all of them needs of the stack is slow.
-                arms = {0: part, **arms}
-                calls = [f"{number} => {part.head.call(number)}," for number in arms if number]
-                out += [(0, f"match turning::turned() {{ {' '.join(calls)} _ => {part.head.call(0)} }}")]
-                for number, arm in arms.items():
-                    beside += [(number, part.head.beside(number))]
-                    beside += [(number, self.using(it)) for it in arm.lines] + [(number, "}")]
-            else:
-                out += self.body(part, arms)
-        return out
-
-    def body(self, part: Part, arms: dict[int, Part]) -> list[Line]:
-        """The lines of a body with arms, where no function can stand beside its own."""
-        out = [(0, "match turning::turned() {")]
-        for number, arm in arms.items():
-            out += [(number, f"{number} => {{")]
-            out += [(number, self.using(it)) for it in arm.lines]
-            out += [(number, "}")]
-        out += [(0, "_ => {")] + [(0, self.using(it)) for it in part.lines] + [(0, "}"), (0, "}")]
-        return out
-
-    def using(self, line: str) -> str:
-        """A line of a body, where a constant that edits change is picked by the number."""
-        for name, arms in self.constants().items():
-            picks = " ".join(f"{number} => {name}_{number}," for number in arms)
-            pick = f"(match turning::turned() {{ {picks} _ => {name} }})"
-            line = re.sub(rf"\b{name}\b", lambda _: pick, line)
-        return line
-
-
-def renamed(line: str, name: str, number: int) -> str:
-    """A line of a constant under the name that an edit's constant has."""
-    return re.sub(rf"\bconst {name}:", f"const {name}_{number}:", line)
 
 
 def write_copy(folder: pathlib.Path, edits: list[Edit]) -> None:
@@ -344,11 +185,7 @@ class Copy:
 
     def edits_at(self, said: str) -> set[int]:
         """The numbers of the edits in whose lines the compiler's errors stand."""
-        numbers: set[int] = set()
-        for path, line in re.findall(r"^(\S+\.rt):(\d+):\d+: error", said, re.M):
-            owners = self.owners.get((self.folder / "crates/player" / path).resolve(), [])
-            numbers.update(owners[int(line) - 1:int(line)])
-        return numbers - {0}
+        return numbers_at(said, self.folder / "crates/player", self.owners)
 
 
 # Playing.

@@ -148,7 +148,7 @@ class Cases(Written):
         library = preloaded("refused_calls.c", self.folder)
         for number in range(1, 100):
             self.kept_before()
-            status, _, _ = self.run(SAVE, env={"LD_PRELOAD": library, "REFUSED": str(number)})
+            status, _, _ = self.run(SAVE, env={**os.environ, "LD_PRELOAD": library, "REFUSED": str(number)})
             held = self.read("kept")
             for name in self.new():
                 if name.startswith((".zkit-", "kept")):
