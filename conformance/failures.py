@@ -101,11 +101,18 @@ def is_cut_off(plan: Plan, came: Came, whole: Came) -> bool:
     )
 
 
+def is_unread(plan: Plan, came: Came) -> bool:
+    """Whether a run ended for lack of memory, and says so in the facts of its story."""
+    row = f"{plan.story}\tunread\tout of memory\n"
+    line = f'{{"form":1,"path":"{plan.story}","unread":"out of memory"}}\n'
+    return came.status == 5 and came.told == NO_MEMORY and came.shown in (row, line)
+
+
 def outcome(plan: Plan, came: Came, whole: Came, unsaved: Came) -> str | None:
     """What came of a run with a refused allocation, in words, or nothing where it may not be."""
     if came == whole:
         return "changed nothing"
-    if is_cut_off(plan, came, whole):
+    if is_cut_off(plan, came, whole) or is_unread(plan, came):
         return "ended the run"
     # as one whose save was refused for another reason
     if came == unsaved._replace(told=NOT_SAVED.sub("out of memory", unsaved.told)):

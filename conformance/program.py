@@ -186,7 +186,7 @@ class Cases(Written):
         reader, writer = os.pipe()
         os.close(reader)
         with open(writer, "wb") as pipe:
-            self.check((4, "", last("zkit: write failed")), words, stdout=pipe)
+            self.check((4, "", "zkit: write failed\n"), words, stdout=pipe)
 
     def check_prompt(self, words: str, turns: Iterable[tuple[str, str]]) -> None:
         """Looks whether the text of each turn is on the screen before its line is typed, if one is."""
@@ -203,7 +203,14 @@ class Cases(Written):
     def run_readers(self) -> None:
         """Runs the cases of a pipe that nobody reads, and of plays that wait for a line."""
         # nothing is run after the write that fails: endless.z3 has no end, and the limit on instructions is far
-        for words in ("play lines.z3", "play --steps 1000000000 endless.z3", "disasm lines.z3"):
+        for words in (
+            "play lines.z3", "play --steps 1000000000 endless.z3", "play --boxes lines.z3", "disasm lines.z3",
+            "disasm --notes lines.z3", "disasm --at 40 lines.z3", "disasm --graph lines.z3",
+            "info lines.z3 hello.z3 hello.z3", "info --json lines.z3 hello.z3", "info --rows lines.z3 hello.z3",
+            "info --notes lines.z3 hello.z3", "info --recursive folder lines.z3 hello.z3", "info --svg lines.z3",
+            "check lines.z3 hello.z3", "check --summary lines.z3 hello.z3", "check --json lines.z3 missing",
+            "test lines.z3", "--help", "play --help", "--version",
+        ):
             name = words.replace("--steps 1000000000 ", "")
             self.case(f"{name} into a closed pipe", self.check_closed_pipe, words)
         plain, echoed = ((">", "go\n"), ("g>", "up\n"), ("u", "")), ((">", "go\n"), ("go\ng>", "up\n"), ("up\nu", ""))

@@ -13,7 +13,9 @@ import json
 import os
 import pty
 import re
+import resource
 import shlex
+import signal
 import sys
 from collections.abc import Iterable
 from pathlib import Path
@@ -108,7 +110,47 @@ class Sessions(Asked):
         same(self.read("in_line"), self.read("aside"))
         same("azkit: save to which file [in_line.qzl]? aside\n\n| hi\nbx\nc", asked)
 
+    def pages_wait_at_terminals_alone(self) -> None:
+        """Nothing is waited for where the screen is a file."""
+        same("", self.at_terminal("play --page 3 ten.z5 > shown < /dev/null"))
+        same("x\n", self.at_terminal("play --page 3 ten.z5 > shown", (("", "x"),)))
+        same(b"a\nb\nc\nd\ne\nf\ng\nh\ni\nj\n", self.read("shown"))
+
+    def what_is_typed_early_is_kept(self) -> None:
+        """A line that is typed at a page's end answers the next read."""
+        more = "-- more --"
+        came = self.at_terminal("play --page 3 ten.z5", ((more, "x"), (more, "")))
+        same(f"a\nb\nc\n{more}x\nd\ne\nf\ng\nh\n{more}\ni\nj\n", came)
+
+    def records_that_are_full_are_told(self) -> None:
+        """Why a record can't go on is told where that is so, before the last line."""
+        head = "# story: falls.z5\n# seed: 1\n# frames: 1024\n# words: 16384\n# undo: 16\n# steps: 10000000\n"
+
+        def limit() -> None:
+            signal.signal(signal.SIGXFSZ, signal.SIG_IGN)
+            resource.setrlimit(resource.RLIMIT_FSIZE, (len(head), len(head)))
+
+        told = "zkit: full: File too large (os error 27)\nzkit: division by zero\nzkit: fault 8 at 00044\n"
+        self.check((2, "", told), "play --record full falls.z5", b"x\n", preexec_fn=limit)
+        same(head.encode(), self.read("full"))
+
     # ---- an archive
+
+    def folders_with_other_names(self) -> None:
+        """Names that are no text are left out, and told; so is what is no regular file."""
+        self.write({"some/a.z3": FILES["hello.z3"], "some/b/c.z3": FILES["hello.z3"]})
+        os.mkfifo(self.folder / "some/pipe")
+        ifids = "".join(f"some/{name}.z3:\n[ifid]\nZCODE-0-000000\n" for name in ("a", "b/c"))
+        told = "zkit: some/pipe: no regular file, and left out\n"
+        self.check((0, ifids, told), "info --ifid --recursive some")
+        for name in (b"\xff.z3", b"\xfe.z3"):
+            with open(os.fsencode(self.folder / "some/b") + b"/" + name, "wb"):
+                pass
+        told = "zkit: some/b: 2 names in it are no text (UTF-8), and left out\n" + told
+        self.check((4, ifids, told), "info --ifid --recursive some")
+        os.unlink(os.fsencode(self.folder / "some/b") + b"/\xff.z3")
+        told = told.replace("2 names in it are", "1 name in it is")
+        self.check((4, ifids, told), "info --ifid --recursive some")
 
     def facts_in_json(self) -> None:
         """An object for each story, on a line, with the same facts."""
@@ -122,7 +164,7 @@ class Sessions(Asked):
         hello, missing, empty = [json.loads(line) for line in lines.splitlines()]
         same((4, "ZCODE-0-000000", {}), (status, hello["ifid"], hello["dictionary"]), told)
         same({"form": 1, "path": "missing", "unread": "read failed"}, missing)
-        same({"form": 1, "path": "empty", "refused": 1}, empty)
+        same({"form": 1, "path": "empty", "refused": 1, "why": "too short"}, empty)
         strings = self.facts_of("info --strings --json whole.z3")["strings"]
         texts = [(text["address"], text["packed"], text["text"]) for text in strings]
         same([("00056", "002b", "i"), ("00058", "002c", "h")], texts)

@@ -17,6 +17,9 @@ name that stands in one file alone is followed there, and a file that has none o
 
 A row of the table of what callers have to meet cites calls likewise, each with `requires` and the names of all its
 clauses that have one; and each public function with such a clause stands there.
+
+The calls that carry a theorem are functions of any file, with clauses of the names that follow `ensures`. Those that
+rows cite are public, but for those that the page names.
 """
 
 from __future__ import annotations
@@ -66,6 +69,7 @@ class Book:
     """What is there: functions and definitions by their files."""
 
     def __init__(self) -> None:
+        self.private: set[str] = set()  # the calls that rows cite and that are not public
         self.functions: dict[str, list[Function]] = {}
         self.specs: dict[str, dict[str, Definition]] = {}
         for crate in crates():
@@ -112,6 +116,7 @@ class Row:
         if found:
             self.owner = found[0][1].owner
             self.used.update(file for file, _ in found)
+        self.book.private.update(name for _, it in found if not it.public and not it.trait)
         return [function for _, function in found]
 
     def find_definitions(self, name: str) -> list[Definition]:
@@ -222,6 +227,29 @@ def look_at_duty(row: Row, called: str) -> list[Function]:
     return calls
 
 
+def look_at_theorems(text: str, book: Book) -> Iterator[str]:
+    """What is wrong with the calls that carry a theorem: they have the clauses that are named, wherever they stand."""
+    functions = [it for there in book.functions.values() for it in there]
+    for paragraph in re.findall(r"^\*Carried by\* (.*?)\n\n", text, re.M | re.S):
+        for part in " ".join(paragraph.split()).split("; "):
+            said, _, named = part.partition(", ensures ")
+            for name in [] if "the calls of" in said else names_in(said):
+                found = [it for it in functions if it.name == name.rpartition("::")[2]]
+                clauses = {clause for it in found for kind, clause in it.clauses if kind == "ensures"}
+                lacking = [clause for clause in names_in(named) if clause not in clauses]
+                if not found:
+                    yield f"docs/PROVED.md: a theorem is carried by `{name}`, which is no function"
+                elif lacking:
+                    yield f"docs/PROVED.md: a theorem is carried by `{name}`, which has no clause `{lacking[0]}`"
+
+
+def look_at_private(text: str, book: Book) -> Iterator[str]:
+    """What is wrong with the sentence that names the calls that are not public."""
+    named = set(names_in(" ".join(re.findall(r"^All calls are public except (.*?)\.\s", text, re.M | re.S))))
+    for name in sorted(named ^ book.private):
+        yield f"docs/PROVED.md: `{name}` is {'not ' * (name not in book.private)}cited and not public"
+
+
 def main() -> int:
     """Looks at all rows, and answers 1 where something is wrong."""
     moves = sys.argv[1:] == ["--write"]
@@ -247,6 +275,8 @@ def main() -> int:
         for function in functions:
             if function.public and wanted_by(function) and function not in listed:
                 complaints.append(f"docs/PROVED.md: not listed with what it asks for: `{function.name}` of {file}")
+    complaints.extend(look_at_theorems(PAGE.read_text("utf-8"), book))
+    complaints.extend(look_at_private(PAGE.read_text("utf-8"), book))
     if moves:
         PAGE.write_text("\n".join(lines), "utf-8")
     for complaint in complaints:

@@ -335,10 +335,13 @@ pub(crate) fn give<W: MemberWriter>(out: &mut W, outcome: Outcome<'_>) -> Result
     match outcome {
         Outcome::Listed(facts) => give_sections(out, facts),
         Outcome::Checked(facts) => give_findings(out, facts),
-        Outcome::Refused(of) => out.fact(
+        Outcome::Refused(of, why) => out.fact(
             "refused",
             Shape::Members,
-            &[number("refused", of as u64)],
+            &[
+                number("refused", of as u64),
+                member("why", Value::Words(why)),
+            ],
         ),
         Outcome::Unread(words) => {
             out.fact(

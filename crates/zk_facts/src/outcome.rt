@@ -17,8 +17,8 @@ pub enum Outcome<'a> {
     Listed(Facts<'a>),
     /// What `check` finds.
     Checked(Facts<'a>),
-    /// The file is no story, by the number of its refusal.
-    Refused(u8),
+    /// The file is no story, by the number of its refusal, and why in a word or two.
+    Refused(u8, &'a str),
     /// The file can't be read, by the words of the reason.
     Unread(&'a str),
 }

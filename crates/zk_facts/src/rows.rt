@@ -99,6 +99,8 @@ struct Rows<'a> {
     rows: &'a mut Vec<u8>,
     alloc: Global,
     path: &'a str,
+    /// Whether a row was added.
+    is_begun: bool,
 }
 
 impl MemberWriter for Rows<'_> {
@@ -108,6 +110,7 @@ impl MemberWriter for Rows<'_> {
 
     /// Adds a row: the path, what kind of fact it is, and its fields.
     fn fact(&mut self, kind: &str, shape: Shape, members: &[Member<'_>]) -> Result<(), AllocError> {
+        self.is_begun = true;
         add_escaped(self.rows, self.path)?;
         add_field(self.rows, self.alloc, Value::Words(kind))?;
         if let (Shape::Field, Some(first)) = (shape, members.first()) {
@@ -120,13 +123,23 @@ impl MemberWriter for Rows<'_> {
         Ok(())
     }
 
-    fn end(&mut self, _group: Group) -> Result<(), AllocError> {
-        Ok(())
+    /// A story without findings has a row too, of its own kind.
+    fn end(&mut self, group: Group) -> Result<(), AllocError> {
+        match group {
+            Group::Findings if !self.is_begun => self.fact("clean", Shape::Members, &[]),
+            _ => Ok(()),
+        }
     }
 }
 
-/// Adds the rows of what was looked at: one for each fact of a listing, or one with `refused` or `unread`.
+/// Adds the rows of what was looked at: one for each fact of a listing, one with `clean` where a check has found
+/// nothing, or one with `refused` or `unread`.
 pub fn add_rows(rows: &mut Vec<u8>, alloc: Global, looked: &Looked<'_>) -> Result<(), AllocError> {
-    let path = looked.path;
-    give(&mut Rows { rows, alloc, path }, looked.outcome)
+    let mut rows = Rows {
+        rows,
+        alloc,
+        path: looked.path,
+        is_begun: false,
+    };
+    give(&mut rows, looked.outcome)
 }

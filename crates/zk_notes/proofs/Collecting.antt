@@ -1,5 +1,5 @@
 -- What was collected where memory was never short.
-use Rattle.std.proofs.Common.{◌≡◌, ◌∙◌, Bool, true, false, List, [], ◌++◌, Result, Ok, Err, IfOk, ap, refl}
+use Rattle.std.proofs.Common.{◌≡◌, ◌∙◌, Bool, true, false, List, [], ◌++◌, Result, Ok, Err, IfOk, ap}
 use Rattle.zk_inspect.specs.Facts.{Collected}
 
 pub collected_all : {A : Type 0} (x y : Bool) (old new s : List A) → x ≡ false → old ≡ []

@@ -1,12 +1,11 @@
 -- What a loop over lines has made, with one line more.
 use Rattle.std.specs.Prelude.{option_to_list}
-use Rattle.std.specs.List.{filter_map, flat_map, list_any}
+use Rattle.std.specs.List.{filter_map, list_any}
 use Rattle.std.proofs.Common.{◌≡◌, List, [], ◌∷◌, ◌++◌, map, Option, Some, None, ℕ, ◌<◌, ◌+◌, length, get_or, take, sym}
-use Rattle.std.proofs.Common.{refl, ap, ◌∙◌, append-nil, append_assoc, Bool, false}
+use Rattle.std.proofs.Common.{refl, Bool, false}
 use Rattle.std.proofs.lemmas.List.{map-append, take_more}
 use Rattle.std.proofs.lemmas.List.Elements.{filter_map-append}
 use Rattle.std.proofs.lemmas.List.Folds.{list_any-append}
-use Rattle.std.proofs.lemmas.Grind.{flat_map-append}
 
 picked_one : {X Y : Type 0} (h : X → Option Y) (x : X) (o : Option Y) → h x ≡ o
     → filter_map h (x ∷ []) ≡ option_to_list o

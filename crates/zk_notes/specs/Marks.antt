@@ -1,8 +1,10 @@
 -- Disassemblies with marks at what ran.
-use Rattle.std.specs.Prelude.{ℕ, ◌==◌, ◌&&◌, Bool, true, false, List, ◌++◌, codes, nat_lt, length, count_by, decimal}
+use Rattle.std.specs.Prelude.{ℕ, ◌==◌, ◌&&◌, Bool, true, false, List, ◌++◌, codes, is_ok, nat_lt}
+use Rattle.std.specs.Prelude.{length, count_by, decimal}
 use Rattle.std.specs.Prelude.{if◌then◌else◌, Option, Some, None}
 use Rattle.std.specs.List.{filter_map, find, flat_map, list_any}
 use Rattle.std.specs.Str.{bytes_eq}
+use Rattle.zk_code.specs.Reading.{instr_at}
 use Rattle.zk_mem.specs.Map.{MemoryMap}
 use Rattle.zk_inspect.specs.Lines.{fact_line}
 use Rattle.zk_inspect.specs.declared.fact.Fact.{Fact}
@@ -19,9 +21,14 @@ routine_of (fact.Routine r) = Some r
 routine_of (fact.LyingRoutine r reached) = Some r
 routine_of _ = None
 
+-- the address of an instruction: none where the bytes spell none, and a question mark is listed
+abbrev pub decoded_of : MemoryMap → Fact → Option ℕ
+decoded_of m (fact.Instruction a) = if is_ok (instr_at m a) then Some a else None
+decoded_of m _ = None
+
 -- the addresses of the instructions and of the routines that are listed
-abbrev pub instructions_in : List Fact → List ℕ
-instructions_in facts = filter_map instruction_of facts
+abbrev pub instructions_in : MemoryMap → List Fact → List ℕ
+instructions_in m facts = filter_map (decoded_of m) facts
 
 abbrev pub routines_in : List Fact → List ℕ
 routines_in facts = filter_map routine_of facts
@@ -69,7 +76,7 @@ marked_fact notes m covered instructions routines f =
 -- the lines of code with their marks, where the addresses that ran are known
 unfoldable pub marked_facts : Bool → MemoryMap → List ℕ → List Fact → List ℕ
 marked_facts notes m covered facts =
-    flat_map (marked_fact notes m covered (instructions_in facts) (routines_in facts)) facts
+    flat_map (marked_fact notes m covered (instructions_in m facts) (routines_in facts)) facts
 
 -- how many of what is listed ran, and words
 abbrev pub share_of : ℕ → ℕ → List ℕ → List ℕ
@@ -89,4 +96,4 @@ summary_of covered instructions routines =
 -- code with its marks, and how much of it ran
 abbrev pub marked_of : Bool → MemoryMap → List ℕ → List Fact → List ℕ
 marked_of notes m covered facts =
-    marked_facts notes m covered facts ++ summary_of covered (instructions_in facts) (routines_in facts)
+    marked_facts notes m covered facts ++ summary_of covered (instructions_in m facts) (routines_in facts)

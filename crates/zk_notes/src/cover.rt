@@ -1,25 +1,29 @@
 // Disassemblies with marks at what ran.
 
-ghost use Rattle.std.specs.Prelude.{◌≡◌, ℕ, ◌++◌, is_none, count_by, IfOk, IfSome};
+ghost use Rattle.std.specs.Prelude.{◌≡◌, ℕ, ◌++◌, is_none, count_by, option_map, IfOk, IfSome};
 ghost use Rattle.std.specs.List.{flat_map, list_any};
 ghost use Rattle.std.specs.List.Sorted.{IsNonDecreasing};
 ghost use Rattle.std.specs.Str.Lines.{lines};
 ghost use Rattle.zk_inspect.specs.Lines.{fact_line};
-ghost use Rattle.zk_notes.specs.Marks.{fact_ran, first_above, has_run, instruction_of, instructions_in, is_below};
+ghost use Rattle.zk_notes.specs.Marks.{decoded_of, fact_ran, first_above, has_run, instruction_of};
+ghost use Rattle.zk_notes.specs.Marks.{instructions_in, is_below};
 ghost use Rattle.zk_notes.specs.Marks.{marked_fact, marked_line, marked_of, ran_line, routine_of, routines_in};
 ghost use Rattle.zk_notes.specs.Marks.{share_of, summary_of, was_entered};
-ghost use Rattle.zk_notes.specs.Union.{IsUnion, address_on, is_no_address};
+ghost use Rattle.zk_notes.specs.Union.{IsUnion, address_on, is_foreign, is_no_address, is_of_story};
+ghost use Rattle.zk_notes.specs.Union.{story_line, story_of};
 
 use crate::addresses::{address_of, push_found};
 use crate::lines::Lines;
 use itoa::Buffer;
 use std::alloc::{AllocError, Global};
+use zk_code::decode::decode;
 use zk_facts::outcome::Facts;
 use zk_inspect::fact::Fact;
+use zk_inspect::listing::header_lines::shown_serial;
 use zk_inspect::plain_text::write_fact;
 use zk_mem::memory::Memory;
 use zk_term::line_writer::LineWriter;
-use zk_term::writing::write_texts;
+use zk_term::writing::{hex_digits_of, write_texts};
 
 /// The address of what stands where code comes to.
 pub(crate) fn instruction_of(fact: Fact) -> Option<u32>
@@ -27,6 +31,16 @@ pub(crate) fn instruction_of(fact: Fact) -> Option<u32>
 {
     match fact {
         Fact::Instruction(address) => Some(address),
+        _ => None,
+    }
+}
+
+/// The address of an instruction: none where the bytes spell none, and a question mark is listed.
+pub(crate) fn decoded_of(memory: &Memory, fact: Fact) -> Option<u32>
+    ensures { result ≡ decoded_of memory.now fact }
+{
+    match fact {
+        Fact::Instruction(address) if decode(memory, address).is_ok() => Some(address),
         _ => None,
     }
 }
@@ -42,12 +56,13 @@ pub(crate) fn routine_of(fact: Fact) -> Option<u32>
 }
 
 /// The addresses of the instructions that are listed.
-fn instructions_in(alloc: Global, facts: &[Fact]) -> Result<Vec<u32>, AllocError>
-    ensures { IfOk result (λ v. v.items ≡ instructions_in facts.now) }
+fn instructions_in(alloc: Global, facts: &Facts<'_>) -> Result<Vec<u32>, AllocError>
+    ensures { IfOk result
+        (λ v. v.items ≡ instructions_in facts.now.memory.now facts.now.list.now) }
 {
     let mut addresses = Vec::new(alloc);
-    for fact in facts {
-        push_found(&mut addresses, instruction_of(*fact))?;
+    for fact in facts.list {
+        push_found(&mut addresses, decoded_of(facts.memory, *fact))?;
     }
     Ok(addresses)
 }
@@ -232,7 +247,7 @@ pub fn marked(
     ensures { IfOk result (λ v. IsNonDecreasing covered.now
         → v.items ≡ marked_of notes facts.now.memory.now covered.now facts.now.list.now) }
 {
-    let instructions = instructions_in(alloc, facts.list)?;
+    let instructions = instructions_in(alloc, facts)?;
     let routines = routines_in(alloc, facts.list)?;
     let coverage = Coverage {
         covered,
@@ -259,15 +274,62 @@ fn is_no_address(line: &str) -> bool
     !line.trim().is_empty() && address_on(line).is_none()
 }
 
+/// Whether a line is neither an address nor that of a story.
+fn is_foreign(story: &str, line: &str) -> bool
+    ensures { result ≡ is_foreign story.now line.now }
+{
+    is_no_address(line) && line != story
+}
+
+/// Whether a line is that of a story.
+fn is_of_story(line: &str) -> bool
+    ensures { result ≡ is_of_story line.now }
+{
+    line.as_bytes().starts_with(b"story ")
+}
+
+/// The line of a story that a text begins with, if it does.
+pub fn story_of(text: &str) -> Option<&str>
+    ensures { option_map (λ s. s.now) result ≡ story_of (lines text.now) }
+{
+    match text.lines().next() {
+        Some(line) if is_of_story(line) => Some(line),
+        _ => None,
+    }
+}
+
+/// Writes the line of a story.
+#[tactic(auto, unfolding(crate::specs::Union::story_line, zk_term::specs::Numbers::word_digits))]
+fn write_story<P: LineWriter>(out: &mut P, memory: &Memory)
+    ensures { P.wrote out.old out.new (story_line memory.now) }
+{
+    let mut decimal = Buffer::new();
+    let serial = shown_serial(memory.header().serial);
+    let sum = hex_digits_of(memory.sum() as u32);
+    let length = decimal.format(memory.len()).as_bytes();
+    write_texts(out, &[b"story ", &serial, b" ", &sum[4..], b" ", length]);
+}
+
+/// The line of a story, without a new line: its serial number, the sum of its bytes, as `verify` has it, and the length
+/// of its file. It tells a coverage file's story from others, and from other builds.
+pub fn story_line(alloc: Global, memory: &Memory) -> Result<Vec<u8>, AllocError>
+    ensures { IfOk result (λ v. v.items ≡ story_line memory.now) }
+{
+    let mut out = Lines::new(alloc);
+    write_story(&mut out, memory);
+    out.finish()
+}
+
 /// The addresses that the lines of a text are, each once and ascending, as the union of the lists in it; none where a
-/// line is no address. An address has five hexadecimal digits at least, and lines of spaces alone are left out.
-pub fn addresses_in(alloc: Global, text: &str) -> Result<Option<Vec<u32>>, AllocError>
-    ensures none { IfOk result (λ o. is_none o ≡ list_any is_no_address (lines text.now)) }
+/// line is no address and not that of the story. An address has five hexadecimal digits at least, and lines of spaces
+/// alone are left out.
+pub fn addresses_in(alloc: Global, story: &str, text: &str) -> Result<Option<Vec<u32>>, AllocError>
+    ensures none { IfOk result (λ o. is_none o ≡ list_any (is_foreign story.now) (lines text.now)) }
     ensures union { IfOk result (λ o. IfSome o (λ v. IsUnion v.items (lines text.now))) }
 {
     let mut addresses = Vec::new(alloc);
     for line in text.lines() {
-        if is_no_address(line) {
+        if is_foreign(story, line) {
             return Ok(None);
         }
         push_found(&mut addresses, address_on(line))?;

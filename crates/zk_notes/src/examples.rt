@@ -2,12 +2,14 @@
 
 ghost use Rattle.zk_notes.specs.guards.Examples.{AddressesAreRead, CompilersAreKnown, FindingsAreCounted};
 ghost use Rattle.zk_notes.specs.guards.Examples.{FactsAreMarked, FindingsAreExplained, LinesAreMarked, ListsAreRead};
+ghost use Rattle.zk_notes.specs.guards.Examples.{StoriesAreTold};
 
 /// Small listings, fact by fact.
 #[tactic(auto, unfolding(crate::proofs::guards::Opened::examples))]
 pub fn notes_by_example()
     ensures addresses_are_read { AddressesAreRead }
     ensures lists_are_read { ListsAreRead }
+    ensures stories_are_told { StoriesAreTold }
     ensures findings_are_explained { FindingsAreExplained }
     ensures findings_are_counted { FindingsAreCounted }
     ensures facts_are_marked { FactsAreMarked }

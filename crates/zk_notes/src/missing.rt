@@ -1,21 +1,9 @@
 // Addresses that were named, and at which nothing is listed.
 
 use crate::addresses::push_found;
-use crate::cover::{instruction_of, routine_of};
+use crate::cover::{decoded_of, routine_of};
 use std::alloc::{AllocError, Global};
-use zk_code::decode::decode;
 use zk_facts::outcome::Facts;
-use zk_inspect::fact::Fact;
-use zk_mem::memory::Memory;
-
-/// The address of an instruction, where one is decoded there.
-fn decoded_of(memory: &Memory, fact: Fact) -> Option<u32> {
-    let address = instruction_of(fact)?;
-    match decode(memory, address) {
-        Ok(_) => Some(address),
-        Err(_) => None,
-    }
-}
 
 /// Those of some addresses that are not among others, which ascend.
 fn others(alloc: Global, addresses: &[u32], listed: &[u32]) -> Result<Vec<u32>, AllocError> {

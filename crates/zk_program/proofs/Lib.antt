@@ -3,3 +3,4 @@ pub mod Readings
 pub mod Reports
 pub mod Verdicts
 pub mod Listings
+pub mod Covers

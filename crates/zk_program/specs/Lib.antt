@@ -4,3 +4,5 @@ pub mod Status
 pub mod Headings
 pub mod Listing
 pub mod Verdict
+pub mod Plans
+pub mod Covers

@@ -1,10 +1,12 @@
 // Playing with the status line and the upper window above the prompt.
 
 ghost use Rattle.std.specs.Prelude.{◌≡◌, ◌≤◌, true, false, None, Some, Err, OnOk};
+ghost use Rattle.zk_term.specs.Devices.{device};
 ghost use Rattle.zk_vm.specs.Bounds.{AreInRange};
 ghost use Rattle.zk_vm.specs.Halts.{event_waited};
 ghost use Rattle.zk_vm.specs.Step.{is_read};
-ghost use Rattle.zk_program.specs.Playing.{Work};
+ghost use Rattle.zk_program.specs.Plans.{menu_height, shown_rows};
+ghost use Rattle.zk_program.specs.Playing.{IsReported, Work};
 
 use crate::exit::Exit;
 use crate::playing::{Devices, PlayRequest, note_stop, start};
@@ -31,6 +33,25 @@ use zk_vm::machine::{Machine, is_read};
 use zk_vm::play::{answer, next_line, run_on, serve};
 use zk_vm::slot::SaveSlot;
 use zk_vm::stop::Stop;
+
+/// How rows are shown.
+#[derive(Clone, Copy, Drop)]
+struct Look {
+    /// The columns of the screen's lines, where they are wrapped.
+    width: Option<u8>,
+    /// The height of the window in which a character was read last, or 0 where a line was.
+    menu: u8,
+}
+
+/// The height of a window that a read makes a menu: one of a character does.
+fn menu_of(event: Event, height: u8) -> u8
+    ensures { result ≡ menu_height event height }
+{
+    match event {
+        Event::Char => height,
+        _ => 0,
+    }
+}
 
 /// Shows the status line of version 3, where it can be read.
 fn show_status<S: Screen>(screen: &mut S, memory: &Memory) {
@@ -71,20 +92,29 @@ fn show_row<S: Screen>(screen: &mut S, characters: &[char]) {
     screen.text('\n');
 }
 
-/// Shows the rows of the upper window, and below them those that were taken away since the last read.
-fn show_rows<S: Screen>(screen: &mut S, windows: &Windows, width: Option<u8>) {
-    for row in 0..windows.tallest() {
-        show_row(screen, row_within(windows, row + 1, width));
+/// How many rows are shown: those of the window, and those that were taken away since the last read, unless that read a
+/// character and they are of the window that it was read in, as a menu's are.
+fn rows_shown(height: u8, tallest: u8, menu: u8) -> u8
+    ensures { result ≡ shown_rows height tallest menu }
+{
+    if tallest <= menu { height } else { tallest }
+}
+
+/// Shows the rows of the upper window, and below them those that were taken away.
+fn show_rows<S: Screen>(screen: &mut S, windows: &Windows, look: Look) {
+    let rows = rows_shown(windows.height(), windows.tallest(), look.menu);
+    for row in 0..rows {
+        show_row(screen, row_within(windows, row + 1, look.width));
     }
 }
 
 /// The status line and the rows, as they stand above the prompt.
-fn text_above(alloc: Global, machine: &Machine, width: Option<u8>) -> Result<Vec<u8>, AllocError> {
+fn text_above(alloc: Global, machine: &Machine, look: Look) -> Result<Vec<u8>, AllocError> {
     let mut text = IoDevice::new(Vec::new(alloc));
     let mut nothing = Nothing;
     let mut screen = BufferedScreen::new(&mut text, &mut nothing);
     show_status(&mut screen, machine.memory());
-    show_rows(&mut screen, machine.windows(), width);
+    show_rows(&mut screen, machine.windows(), look);
     screen.finish();
     if screen.has_failed() {
         return Err(AllocError);
@@ -121,13 +151,13 @@ fn show_prompt<S: Target>(
     alloc: Global,
     screen: &mut HeldPrompt<S>,
     machine: &mut Machine,
-    width: Option<u8>,
+    look: Look,
 ) -> Result<(), Stop>
     ensures waits { OnOk result (machine.new.waiting ≡ machine.old.waiting) }
     ensures works { OnOk result (S.failed screen.old.screen ≡ false → S.failed screen.new.screen ≡ false) }
     ensures whole { OnOk result (S.whole screen.new.screen) }
 {
-    let above = match text_above(alloc, machine, width) {
+    let above = match text_above(alloc, machine, look) {
         Ok(above) => above,
         Err(AllocError) => return end(machine, Stop::Memory),
     };
@@ -167,7 +197,7 @@ fn go_on<I: Source, S: Target, T: Target, K: SaveSlot, P: Places>(
     lines: &mut Lines,
     machine: &mut Machine,
     places: &mut P,
-    width: Option<u8>,
+    look: &mut Look,
 ) -> Result<(), Stop>
     requires free { machine.old.waiting ≡ None }
     requires screen_works { S.failed devices.old.screen.screen ≡ false }
@@ -179,7 +209,8 @@ fn go_on<I: Source, S: Target, T: Target, K: SaveSlot, P: Places>(
     let screen = &mut devices.screen;
     match run_on(screen, &mut devices.script, machine, places) {
         Ok(event) if is_read(event) => {
-            show_prompt(alloc, screen, machine, width)?;
+            show_prompt(alloc, screen, machine, *look)?;
+            look.menu = menu_of(event, machine.windows().height());
             answer_read(&mut devices.input, screen, lines, machine, event)
         }
         Ok(event) => {
@@ -209,9 +240,10 @@ pub fn play_with_boxes<I: Source, S: Target, T: Target, K: SaveSlot, P: Places>(
     requires script_works { T.failed devices.old.script ≡ false }
 {
     let mut lines = Lines::new();
+    let mut look = Look { width, menu: 0 };
     // a machine's limits end it long before
     for _k in 0..u64::MAX {
-        match go_on(alloc, devices, &mut lines, machine, places, width) {
+        match go_on(alloc, devices, &mut lines, machine, places, &mut look) {
             Ok(()) => {}
             Err(stop) => return stop,
         }
@@ -240,6 +272,8 @@ pub fn play_with_boxes_and_report<
     requires in_range { AreInRange request.settings.limits }
     requires works { Work I.failed S.failed T.failed devices }
     requires errors_work { E.failed errors.old ≡ false }
+    ensures { IsReported (λ _. Unit {0}) (device E.taken E.failed errors.old)
+        (device E.taken E.failed errors.new) result }
 {
     let Devices {
         input,

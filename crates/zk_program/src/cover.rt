@@ -1,137 +1,187 @@
 // Files with the addresses of instructions that ran.
 
+ghost use Rattle.std.specs.Prelude.{◌≡◌, ◌<◌, ◌^◌, ◌++◌, length, IfOk, IfSome, OnOk};
+ghost use Rattle.zk_program.specs.Covers.{HasCoverage, address_line, are_within, marked_line, text_of_cover};
+
 use crate::exit::Exit;
-use crate::told::{out_of_memory, tell_last_line};
+use crate::told::{out_of_memory, tell_last_line, tell_unread};
 use std::alloc::{AllocError, Global};
 use std::{fs, str};
 use zk_fast::places::{Cover, Places};
-use zk_notes::cover::addresses_in;
-use zk_system::files::read_whole;
+use zk_mem::memory::Memory;
+use zk_notes::cover::{addresses_in, story_line, story_of};
+use zk_system::files::{MOST_TEXT, read_whole};
 use zk_system::keeping::{Kept, keep};
-use zk_system::reason::tell_reason;
 use zk_system::shown::Shown;
 use zk_term::writing::{hex_digits_of, zeros_before};
 use zk_vm::stop::Stop;
 
-/// The bytes of the longest story.
-const LONGEST: u64 = 0x8_0000;
+/// What is told of a file that is no list of addresses.
+const NO_LIST: &str = "not a coverage file";
 
-/// Whether a story may have some addresses, which ascend.
-fn are_of_stories(addresses: &[u32]) -> bool {
-    match addresses.last() {
-        Some(last) => (*last as u64) < LONGEST,
-        None => true,
-    }
+/// Where the instructions stand that ran, by a coverage file, and of which story.
+#[derive(Drop)]
+pub struct Covered<'a> {
+    path: &'a str,
+    /// The line of the story.
+    story: String,
+    /// Their addresses, ascending.
+    pub addresses: Vec<u32>,
 }
 
-/// The addresses in a file, ascending, or the program's status, where it is told why there are none.
-pub fn covered_in(rt: &HostRuntime, path: &str) -> Result<Vec<u32>, u8> {
-    let bytes = match read_whole(rt, path) {
+/// What a coverage file has by its bytes: a text that begins with the line of a story, and has no other lines than that
+/// and addresses; none where they are no such text.
+fn list_in<'a>(
+    alloc: Global,
+    path: &'a str,
+    bytes: &[u8],
+) -> Result<Option<Covered<'a>>, AllocError>
+    ensures { IfOk result (λ o. IfSome o (λ c. HasCoverage bytes.now c.story.bytes.items c.addresses.items)) }
+{
+    let Ok(text) = str::from_utf8(bytes) else {
+        return Ok(None);
+    };
+    let Some(story) = story_of(text) else {
+        return Ok(None);
+    };
+    let Some(addresses) = addresses_in(alloc, story, text)? else {
+        return Ok(None);
+    };
+    Ok(Some(Covered {
+        path,
+        story: String::from_str(alloc, story)?,
+        addresses,
+    }))
+}
+
+/// Tells why a coverage file is not taken, and answers the program's status.
+fn refuse(rt: &HostRuntime, path: &str, reason: &str) -> u8 {
+    let _ = eprintln!(rt; "zkit: {}: {reason}", Shown(path));
+    tell_last_line(rt, &Exit::Stopped(Stop::Read))
+}
+
+/// What a coverage file has, or the program's status, where it is told why it has nothing.
+pub fn covered_in<'a>(rt: &HostRuntime, path: &'a str) -> Result<Covered<'a>, u8> {
+    let bytes = match read_whole(rt, path, MOST_TEXT) {
         Ok(bytes) => bytes,
-        Err(error) => {
-            tell_reason(rt, path, &error);
-            return Err(tell_last_line(rt, &Exit::Unread(error)));
-        }
+        Err(error) => return Err(tell_unread(rt, path, error)),
     };
-    let found = match str::from_utf8(bytes.as_slice()) {
-        Ok(text) => addresses_in(rt.alloc(), text),
-        Err(_) => Ok(None),
-    };
-    match found {
-        Ok(Some(addresses)) if are_of_stories(addresses.as_slice()) => Ok(addresses),
-        Ok(_) => {
-            let _ = eprintln!(rt; "zkit: {}: not a coverage file", Shown(path));
-            Err(tell_last_line(rt, &Exit::Stopped(Stop::Read)))
-        }
+    match list_in(rt.alloc(), path, bytes.as_slice()) {
+        Ok(Some(covered)) => Ok(covered),
+        Ok(None) => Err(refuse(rt, path, NO_LIST)),
         Err(_) => Err(out_of_memory(rt)),
     }
 }
 
-/// The addresses that a file has, ascending: none where there is no file.
-fn covered_before(rt: &HostRuntime, path: &str) -> Result<Vec<u32>, u8> {
-    if fs::exists(rt, path).unwrap_or(true) {
-        covered_in(rt, path)
-    } else {
-        Ok(Vec::new(rt.alloc()))
+/// Whether addresses, which ascend, lie in a story of a length.
+fn are_within(addresses: &[u32], length: u32) -> bool
+    ensures { result ≡ are_within addresses.now length }
+{
+    match addresses.last() {
+        Some(last) => *last < length,
+        None => true,
     }
 }
 
-/// An address after all that the instructions of a story have, by its file, and after others, which ascend.
-fn bound_of(rt: &HostRuntime, story: &str, others: &[u32]) -> u32 {
-    let length = match fs::metadata(rt, story) {
-        // a pipe tells no length
-        Ok(found) if found.len() > 0 => found.len().min(LONGEST) as u32,
-        _ => LONGEST as u32,
-    };
-    match others.last() {
-        Some(last) => length.max(last.saturating_add(1)),
-        None => length,
+impl Covered<'_> {
+    /// Sees that this is of a story, or answers the program's status, where it is told that it is not.
+    pub fn see_story(&self, rt: &HostRuntime, memory: &Memory) -> Result<(), u8> {
+        let Ok(line) = story_line(rt.alloc(), memory) else {
+            return Err(out_of_memory(rt));
+        };
+        if line.as_slice() != self.story.as_bytes() {
+            let reason = "it is of another story, or of another build of this one";
+            return Err(refuse(rt, self.path, reason));
+        }
+        if !are_within(self.addresses.as_slice(), memory.len()) {
+            return Err(refuse(rt, self.path, NO_LIST));
+        }
+        Ok(())
     }
+}
+
+/// What a coverage file has of a story: nothing where there is no file.
+fn covered_before(rt: &HostRuntime, path: &str, memory: &Memory) -> Result<Vec<u32>, u8> {
+    if !fs::exists(rt, path).unwrap_or(true) {
+        return Ok(Vec::new(rt.alloc()));
+    }
+    let covered = covered_in(rt, path)?;
+    covered.see_story(rt, memory)?;
+    Ok(covered.addresses)
 }
 
 /// Adds the line of an address: five hexadecimal digits at least.
-fn add_address(list: &mut Vec<u8>, address: u32) -> Result<(), AllocError> {
+#[tactic(auto, unfolding(zk_term::specs::Numbers::address_digits))]
+fn add_address(list: &mut Vec<u8>, address: u32) -> Result<(), AllocError>
+    ensures { OnOk result (list.new.items ≡ list.old.items ++ address_line address) }
+{
     let digits = hex_digits_of(address);
     list.extend_from_slice(&digits[zeros_before(address)..])?;
     list.push(b'\n')?;
     Ok(())
 }
 
-/// The lines of a list: the addresses that were noted, ascending.
-fn list_of(alloc: Global, cover: &Cover) -> Result<Vec<u8>, AllocError> {
-    let mut list = Vec::new(alloc);
-    let mut address: u32 = 0;
-    for noted in cover.marks() {
-        if *noted {
-            add_address(&mut list, address)?;
-        }
-        address = address.saturating_add(1);
+/// Adds the line of an address that was noted, if it was.
+fn add_marked(list: &mut Vec<u8>, address: usize, is_noted: bool) -> Result<(), AllocError>
+    ensures { address < 2 ^ 32
+        → OnOk result (list.new.items ≡ list.old.items ++ marked_line address is_noted) }
+{
+    match u32::try_from(address) {
+        Ok(address) if is_noted => add_address(list, address),
+        _ => Ok(()),
     }
-    Ok(list)
+}
+
+/// The text of a coverage file: the line of the story, and the addresses below a bound that were noted, ascending.
+#[tactic(auto, unfolding(crate::specs::Covers::marked_from))]
+pub fn cover_text(alloc: Global, story: &[u8], marks: &[bool]) -> Result<Vec<u8>, AllocError>
+    ensures { length marks.now < 2 ^ 32
+        → IfOk result (λ v. v.items ≡ text_of_cover story.now marks.now) }
+{
+    let mut text = Vec::from_slice(alloc, story)?;
+    text.push(b'\n')?;
+    for at in 0..marks.len() {
+        add_marked(&mut text, at, marks[at])?;
+    }
+    Ok(text)
 }
 
 /// The file that gets the addresses of the instructions that a play carries out, beside those that it has.
 #[derive(Drop)]
 pub struct CoverFile<'a> {
     path: &'a str,
+    /// The line of the story.
+    story: Vec<u8>,
     pub cover: Cover,
 }
 
 impl<'a> CoverFile<'a> {
-    /// The file at a path, with what it has; or the program's status, where it is told why that is not had.
-    fn read(rt: &HostRuntime, path: &'a str, story: &str) -> Result<CoverFile<'a>, u8> {
-        let before = covered_before(rt, path)?;
-        let bound = bound_of(rt, story, before.as_slice());
-        let Ok(mut cover) = Cover::new(rt.alloc(), bound as usize) else {
+    /// The file at a path for a play of a story, with what it has; or the program's status, where it is told why that
+    /// is not had.
+    pub fn read(rt: &HostRuntime, path: &'a str, memory: &Memory) -> Result<CoverFile<'a>, u8> {
+        let before = covered_before(rt, path, memory)?;
+        let alloc = rt.alloc();
+        let (Ok(story), Ok(mut cover)) = (
+            story_line(alloc, memory),
+            Cover::new(alloc, memory.len() as usize),
+        ) else {
             return Err(out_of_memory(rt));
         };
         for address in &before {
             cover.note(*address);
         }
-        Ok(CoverFile { path, cover })
+        Ok(CoverFile { path, story, cover })
     }
 
     /// Writes all that was noted in place of what the file had, and answers the program's status after a play that
     /// ended with one.
     pub fn write(&self, rt: &HostRuntime, status: u8) -> u8 {
-        let Ok(list) = list_of(rt.alloc(), &self.cover) else {
+        let Ok(list) = cover_text(rt.alloc(), self.story.as_slice(), self.cover.marks()) else {
             return out_of_memory(rt);
         };
         if keep(rt, self.path, list.as_slice(), Kept::List) {
             return status;
         }
         tell_last_line(rt, &Exit::Stopped(Stop::Write))
-    }
-}
-
-/// The file at a path for a play of a story, where there is one; or the program's status.
-pub fn cover_at<'a>(
-    rt: &HostRuntime,
-    path: Option<&'a str>,
-    story: &str,
-) -> Result<Option<CoverFile<'a>>, u8> {
-    match path {
-        Some(path) => Ok(Some(CoverFile::read(rt, path, story)?)),
-        None => Ok(None),
     }
 }

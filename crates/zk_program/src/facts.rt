@@ -5,13 +5,15 @@ ghost use Rattle.zk_program.specs.Verdict.{IsStart};
 
 use crate::about::About;
 use crate::exit::Exit;
+use crate::listed::Listed;
 use crate::listing::{Listing, exit_after, facts_of, open_listed};
 use crate::play::screen_of;
 use crate::report::report_listing;
 use crate::told::out_of_memory;
-use std::alloc::AllocError;
+use std::alloc::{AllocError, Global};
 use std::fs::File;
 use std::io::ErrorKind;
+use zk_blorb::looks::Looks;
 use zk_command::arguments::NO_TEXT;
 use zk_command::settings::Form;
 use zk_facts::document::object_about;
@@ -76,13 +78,39 @@ pub fn look_into(rt: &HostRuntime, about: &About, path: &str, listing: Listing<'
     }
 }
 
+/// Why a file is no story, in a word or two: by what it looks like, if that is known, and else by the refusal.
+fn why_no_story(alloc: Global, looks: Looks, error: OpenError) -> Result<String, AllocError> {
+    let why = match (looks, error) {
+        (Looks::Blorb, _) => "blorb",
+        (Looks::Glulx, _) => "glulx",
+        (Looks::Gzip, _) => "gzip",
+        (Looks::Zip, _) => "zip",
+        (Looks::Text, _) => "text",
+        (_, OpenError::Version(version)) => return format!(in alloc; "version {version}"),
+        (_, OpenError::TooShort) => "too short",
+        (_, OpenError::TooLong) => "too long",
+        (_, OpenError::StaticBase) => "static memory",
+        (_, OpenError::FirstInstruction) => "first instruction",
+        (_, OpenError::OutOfMemory) => "out of memory",
+    };
+    String::from_str(alloc, why)
+}
+
+/// Why a file is refused, if it is.
+fn why_refused(alloc: Global, looks: Looks, exit: &Exit) -> Result<String, AllocError> {
+    match exit {
+        Exit::Refused(error) => why_no_story(alloc, looks, *error),
+        _ => Ok(String::new(alloc)),
+    }
+}
+
 /// Why a look found nothing.
-fn nothing_by(exit: &Exit) -> Outcome<'static> {
+fn nothing_by<'a>(exit: &Exit, why: &'a str) -> Outcome<'a> {
     match exit {
         Exit::Refused(OpenError::OutOfMemory) | Exit::Stopped(_) => {
             Outcome::Unread("out of memory")
         }
-        Exit::Refused(error) => Outcome::Refused(error.number()),
+        Exit::Refused(error) => Outcome::Refused(error.number(), why),
         Exit::Unread(error) if error.kind() == ErrorKind::OutOfMemory => {
             Outcome::Unread("out of memory")
         }
@@ -91,9 +119,9 @@ fn nothing_by(exit: &Exit) -> Outcome<'static> {
 }
 
 /// What came of a look.
-fn outcome_of<'a>(look: &'a Look, listing: Listing<'_>) -> Outcome<'a> {
+fn outcome_of<'a>(look: &'a Look, listing: Listing<'_>, why: &'a str) -> Outcome<'a> {
     let Some(found) = &look.found else {
-        return nothing_by(&look.exit);
+        return nothing_by(&look.exit, why);
     };
     match listing {
         Listing::Findings => Outcome::Checked(found.facts()),
@@ -101,11 +129,17 @@ fn outcome_of<'a>(look: &'a Look, listing: Listing<'_>) -> Outcome<'a> {
     }
 }
 
-/// A path as it stands in facts: what is no text in it is shown as `?`.
-fn path_shown(rt: &HostRuntime, path: &str) -> Result<String, AllocError> {
+/// Whether a character of a path is shown as `?` in facts: what is no text, and in rows a control character that is not
+/// escaped there.
+fn is_hidden(c: char, form: Form) -> bool {
+    c == NO_TEXT || (form == Form::Rows && c.is_control() && c != '\t' && c != '\n')
+}
+
+/// A path as it stands in facts.
+fn path_shown(rt: &HostRuntime, path: &str, form: Form) -> Result<String, AllocError> {
     let mut shown = String::new(rt.alloc());
     for c in path.chars() {
-        shown.push(if c == NO_TEXT { '?' } else { c })?;
+        shown.push(if is_hidden(c, form) { '?' } else { c })?;
     }
     Ok(shown)
 }
@@ -117,7 +151,7 @@ fn facts_in(
     outcome: Outcome<'_>,
     form: Form,
 ) -> Result<Vec<u8>, AllocError> {
-    let shown = path_shown(rt, path)?;
+    let shown = path_shown(rt, path, form)?;
     let looked = Looked {
         path: shown.as_str(),
         outcome,
@@ -130,16 +164,21 @@ fn facts_in(
     Ok(rows)
 }
 
-/// Lists the facts of the story in a file, and answers the program's status.
-pub fn list_facts(rt: &HostRuntime, path: &str, listing: Listing<'_>, form: Form) -> u8 {
+/// Lists the facts of the story in a file.
+pub fn list_facts(rt: &HostRuntime, path: &str, listing: Listing<'_>, form: Form) -> Listed {
     let about = About::listed(path, None);
     let look = look_into(rt, &about, path, listing);
-    let Ok(facts) = facts_in(rt, path, outcome_of(&look, listing), form) else {
-        return out_of_memory(rt);
+    let Ok(why) = why_refused(rt.alloc(), about.looks.get(), &look.exit) else {
+        return Listed::nothing(out_of_memory(rt));
+    };
+    let outcome = outcome_of(&look, listing, why.as_str());
+    let Ok(facts) = facts_in(rt, path, outcome, form) else {
+        return Listed::nothing(out_of_memory(rt));
     };
     let exit = match write_all(&mut screen_of(rt, &about), facts.as_slice()) {
         Ok(()) => look.exit,
         Err(Failed) => Exit::Stopped(Stop::Write),
     };
-    report_listing(rt.alloc(), &exit, &about, &mut IoDevice::new(rt.stderr()))
+    let status = report_listing(rt.alloc(), &exit, &about, &mut IoDevice::new(rt.stderr()));
+    Listed::of(status, &about)
 }

@@ -11,6 +11,7 @@ pub mod exit;
 mod facts;
 pub mod heading;
 pub mod list;
+mod listed;
 pub mod listing;
 pub mod opening;
 pub mod play;

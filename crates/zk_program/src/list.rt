@@ -5,6 +5,7 @@ ghost use Rattle.std.specs.Prelude.{◌≡◌, false};
 use crate::about::About;
 use crate::exit::Exit;
 use crate::facts::list_facts;
+use crate::listed::Listed;
 use crate::listing::{CodeListing, Listing, leave_out, list_and_report};
 use crate::play::screen_of;
 use crate::readable::{ListRequest, list_counts, list_readable};
@@ -19,39 +20,47 @@ use zk_system::shown::Shown;
 use zk_system::terminal::{columns, is_told_at};
 use zk_term::io_device::IoDevice;
 
-/// Lists the story in a file, below its heading where it is one of several, and answers the program's status.
-fn list<'a>(rt: &HostRuntime, path: &'a str, heading: Option<&'a str>, listing: Listing<'_>) -> u8 {
+/// Lists the story in a file, below its heading where it is one of several.
+fn list<'a>(
+    rt: &HostRuntime,
+    path: &'a str,
+    heading: Option<&'a str>,
+    listing: Listing<'_>,
+) -> Listed {
     let mut errors = IoDevice::new(rt.stderr());
     let about = About::listed(path, heading);
     let mut screen = screen_of(rt, &about);
-    match File::open(rt, path) {
+    let status = match File::open(rt, path) {
         Err(error) => {
             let exit = leave_out(&about, Exit::Unread(error), &mut screen);
             report_listing(rt.alloc(), &exit, &about, &mut errors)
         }
         Ok(file) => list_and_report(rt.alloc(), file, &about, listing, &mut screen, &mut errors),
-    }
+    };
+    Listed::of(status, &about)
 }
 
-/// Lists one of several stories, below its path where lines are shown, and answers the program's status.
+/// Lists one of several stories, below its path where lines are shown.
 fn list_one_of_several(
     rt: &HostRuntime,
     path: &str,
     request: &ListRequest<'_>,
     counts: &mut Counts,
     counted: bool,
-) -> u8 {
+) -> Listed {
     match request.form {
         Form::Rows | Form::Json => return list_facts(rt, path, request.listing, request.form),
+        // a picture has nothing before it
+        Form::Picture => return list_one(rt, path, None, request, counts, counted),
         _ => {}
     }
     match format!(in rt.alloc(); "{}", Shown(path)) {
         Ok(heading) => list_one(rt, path, Some(heading.as_str()), request, counts, counted),
-        Err(_) => out_of_memory(rt),
+        Err(_) => Listed::nothing(out_of_memory(rt)),
     }
 }
 
-/// Lists a story, below its heading where it is one of several, and answers the program's status.
+/// Lists a story, below its heading where it is one of several.
 fn list_one<'a>(
     rt: &HostRuntime,
     path: &'a str,
@@ -59,7 +68,7 @@ fn list_one<'a>(
     request: &ListRequest<'_>,
     counts: &mut Counts,
     counted: bool,
-) -> u8 {
+) -> Listed {
     if request.is_plain() && !counted {
         return list(rt, path, heading, request.listing);
     }
@@ -76,24 +85,41 @@ struct Several<'a> {
     told: bool,
 }
 
-/// Lists the stories in files, and answers the greatest status.
-fn list_each(
+/// Lists the stories in files one after another, as long as the screen takes them, and answers the greatest status.
+fn list_in_turn(
     rt: &HostRuntime,
     several: Several<'_>,
     request: &ListRequest<'_>,
     counts: &mut Counts,
-) -> u8 {
-    let mut status = 0;
+) -> Listed {
+    let mut all = Listed::nothing(0);
     for (number, path) in several.stories.iter().enumerate() {
-        status = list_one_of_several(rt, path, request, counts, several.summary).max(status);
+        all = all.and(list_one_of_several(rt, path, request, counts, several.summary));
         if several.told {
             let _ = eprint!(rt; "\r{} of {}", number + 1, several.stories.len());
+        }
+        if all.ends {
+            break;
         }
     }
     if several.told {
         let _ = eprintln!(rt;);
     }
-    status
+    all
+}
+
+/// Lists the stories in files, unless they would be several pictures.
+fn list_each(
+    rt: &HostRuntime,
+    several: Several<'_>,
+    request: &ListRequest<'_>,
+    counts: &mut Counts,
+) -> Listed {
+    if request.form == Form::Picture && several.stories.len() > 1 {
+        let _ = eprintln!(rt; "zkit: --svg draws one story at a time");
+        return Listed::nothing(1);
+    }
+    list_in_turn(rt, several, request, counts)
 }
 
 /// Lists the stories in files and in folders, and answers the greatest status: 4 at least where a folder can't be read.
@@ -102,9 +128,9 @@ fn list_folders(
     paths: Several<'_>,
     request: &ListRequest<'_>,
     counts: &mut Counts,
-) -> u8 {
+) -> Listed {
     let Ok(files) = files_of(rt, paths.stories) else {
-        return out_of_memory(rt);
+        return Listed::nothing(out_of_memory(rt));
     };
     let Ok(stories) = files
         .paths
@@ -112,14 +138,18 @@ fn list_folders(
         .map(|path| path.as_str())
         .collect::<Vec<&str>>(rt.alloc())
     else {
-        return out_of_memory(rt);
+        return Listed::nothing(out_of_memory(rt));
     };
     let several = Several {
         stories: stories.as_slice(),
         ..paths
     };
-    let status = list_each(rt, several, request, counts);
-    if files.all { status } else { status.max(4) }
+    let listed = list_each(rt, several, request, counts);
+    if files.all {
+        listed
+    } else {
+        listed.and(Listed::nothing(4))
+    }
 }
 
 /// Lists the stories that paths name, and counts their findings. Those of a list and in folders are counted at a
@@ -131,7 +161,7 @@ fn list_paths(
     request: &ListRequest<'_>,
     listed: bool,
     counts: &mut Counts,
-) -> u8 {
+) -> Listed {
     let several = Several {
         stories: paths,
         summary: options.summary,
@@ -151,7 +181,7 @@ fn list_paths(
 }
 
 /// What is listed of each story, with the roots that code is looked for from.
-fn listing_of<'a>(asked: &'a Asked, roots: &'a CodeRoots, notes: bool) -> Listing<'a> {
+fn listing_of<'a>(asked: &'a Asked, roots: &'a CodeRoots<'a>, notes: bool) -> Listing<'a> {
     match asked {
         Asked::Sections(sections) => Listing::Info(sections.as_slice()),
         Asked::Code { all } => Listing::Code(CodeListing {
@@ -165,15 +195,16 @@ fn listing_of<'a>(asked: &'a Asked, roots: &'a CodeRoots, notes: bool) -> Listin
 }
 
 /// What is asked of each story, by options and by the roots of code.
-fn request_of<'a>(asked: &'a Asked, roots: &'a CodeRoots, options: ShowOptions) -> ListRequest<'a> {
+fn request_of<'a>(
+    asked: &'a Asked,
+    roots: &'a CodeRoots<'a>,
+    options: ShowOptions,
+) -> ListRequest<'a> {
     ListRequest {
         listing: listing_of(asked, roots, options.notes),
         form: options.form,
         notes: options.notes,
-        covered: match &roots.covered {
-            Some(covered) => Some(covered.as_slice()),
-            None => None,
-        },
+        covered: roots.covered.as_ref(),
     }
 }
 
@@ -192,9 +223,9 @@ pub fn list_all(
     };
     let request = request_of(asked, &roots, options);
     let mut counts = Counts::new();
-    let status = list_paths(rt, paths, options, &request, listed, &mut counts);
+    let Listed { status, ends } = list_paths(rt, paths, options, &request, listed, &mut counts);
     match options.form {
-        Form::Lines if options.summary => list_counts(rt, &counts, status),
+        Form::Lines if options.summary && !ends => list_counts(rt, &counts, status),
         _ => status,
     }
 }

@@ -2,25 +2,29 @@
 
 ghost use Rattle.std.specs.Prelude.{◌≡◌, false, IfOk};
 ghost use Rattle.zk_vm.specs.Bounds.{AreInRange};
+ghost use Rattle.zk_program.specs.Plans.{page_lines};
 
 use crate::about::About;
 use crate::boxes::play_with_boxes_and_report;
-use crate::cover::{CoverFile, cover_at};
+use crate::cover::CoverFile;
 use crate::exit::Exit;
+use crate::listing::open_listed;
+use crate::opening::read_story;
 use crate::playing::{Devices, PlayRequest, play_and_report};
 use crate::told::{out_of_memory, tell_exit, tell_last_line};
 use std::fs::{self, File};
-use std::io;
+use std::io::{self, Read};
 use zk_command::settings::{Amount, PlayOptions, Settings};
-use zk_fast::places::Unnoted;
+use zk_fast::places::{Places, Unnoted};
 use zk_system::asking::{Asker, StandardOutput, TypedInput};
 use zk_system::paged::Paged;
 use zk_system::reason::tell_reason;
-use zk_system::record::{Record, write_record_heading};
-use zk_system::save_file::{SaveFile, SavePlace};
+use zk_system::record::{Record, RecordFile, write_record_heading};
+use zk_system::save_file::{SaveFile, SavePlace, tell_no_folder};
 use zk_system::script::ScriptFile;
 use zk_system::shown::Shown;
 use zk_system::terminal::{columns, is_typed_at, lines, seed_of_clock};
+use zk_system::typed_bytes::TypedBytes;
 use zk_system::watched::Watched;
 use zk_term::echo::Echo;
 use zk_term::io_device::IoDevice;
@@ -40,19 +44,15 @@ pub fn screen_of<'a>(rt: &'a HostRuntime, about: &'a About) -> StandardOutput<'a
 fn typed<'a>(
     rt: &'a HostRuntime,
     about: &'a About,
-    record: Option<&'a File>,
+    record: Option<RecordFile<'a>>,
     bytewise: bool,
     echo: bool,
 ) -> TypedInput<'a>
     ensures { result.input.input.failed ≡ false }
 {
-    let input = IoDevice::new(Watched::new(rt.stdin(), &about.input));
-    let kept = match record {
-        Some(file) => Some(IoDevice::new(Watched::new(file, &about.record))),
-        None => None,
-    };
+    let input = IoDevice::new(TypedBytes::new(rt.stdin(), &about.input));
     Echo::new(
-        Echo::new(input, Record::new(kept), bytewise),
+        Echo::new(input, Record::new(rt, record), bytewise),
         screen_of(rt, about),
         echo,
     )
@@ -78,15 +78,24 @@ fn width_by(rt: &HostRuntime, width: Option<Amount>) -> Option<u8> {
     }
 }
 
-/// After how many lines a play waits for Enter, where it waits: a line of the terminal is left for what asks for it.
-fn page_by(rt: &HostRuntime, page: Option<Amount>) -> Option<u64> {
-    let page = page?;
-    if !is_typed_at(rt) {
-        return None;
+/// After how many lines a play waits for Enter, where it waits, by the lines of the terminal, if it is one that shows
+/// what is typed: a line of the terminal is left for what asks for it.
+fn page_of(page: Option<Amount>, lines: Option<u64>) -> Option<u64>
+    ensures { result ≡ page_lines page lines }
+{
+    match (page, lines) {
+        (Some(Amount::Number(page)), Some(_)) => Some(page),
+        (Some(Amount::Found), Some(lines)) => Some(lines.saturating_sub(1)),
+        _ => None,
     }
-    match page {
-        Amount::Number(lines) => Some(lines),
-        Amount::Found => Some(lines(rt)?.saturating_sub(1)),
+}
+
+/// After how many lines a play waits for Enter, where it waits.
+fn page_by(rt: &HostRuntime, page: Option<Amount>) -> Option<u64> {
+    if is_typed_at(rt) {
+        page_of(page, lines(rt))
+    } else {
+        None
     }
 }
 
@@ -181,6 +190,33 @@ fn record_of(
     }
 }
 
+/// A coverage file that a play adds to, and the bytes of the story, which told whether it is of that.
+#[derive(Drop)]
+pub struct Covering<'a> {
+    story: Vec<u8>,
+    file: CoverFile<'a>,
+}
+
+/// The coverage file at a path for a play of a story; or the program's status, where it is told why the story or the
+/// file is not taken.
+fn covering_of<'a>(
+    rt: &HostRuntime,
+    path: &'a str,
+    story: &File,
+    about: &About,
+) -> Result<Covering<'a>, u8> {
+    let alloc = rt.alloc();
+    let story = match read_story(alloc, story) {
+        Ok(story) => story,
+        Err(error) => return Err(tell_exit(rt, &Exit::Unread(error), about)),
+    };
+    let file = match open_listed(alloc, story.as_slice(), about) {
+        Ok(memory) => CoverFile::read(rt, path, &memory)?,
+        Err(exit) => return Err(tell_exit(rt, &exit, about)),
+    };
+    Ok(Covering { story, file })
+}
+
 /// A play that is asked for, with its files open.
 #[derive(Drop)]
 pub struct OpenPlay<'a> {
@@ -201,7 +237,7 @@ impl<'a> OpenPlay<'a> {
         rt: &HostRuntime,
         path: &'a str,
         options: PlayOptions<'a>,
-    ) -> Result<(OpenPlay<'a>, Option<CoverFile<'a>>), u8>
+    ) -> Result<(OpenPlay<'a>, Option<Covering<'a>>), u8>
         requires { AreInRange options.limits }
         ensures { IfOk result (λ opened. AreInRange opened.0.settings.limits) }
     {
@@ -218,8 +254,14 @@ impl<'a> OpenPlay<'a> {
             Ok(story) => story,
             Err(error) => return Err(tell_exit(rt, &Exit::Unread(error), &about)),
         };
-        let cover = cover_at(rt, options.cover, path)?;
+        let covering = match options.cover {
+            Some(cover) => Some(covering_of(rt, cover, &story, &about)?),
+            None => None,
+        };
         let width = width_by(rt, options.width);
+        if let Some(folder) = options.saves {
+            tell_no_folder(rt, folder);
+        }
         let Ok(record) = record_of(rt, path, &options, &settings, width) else {
             return Err(tell_last_line(rt, &Exit::Stopped(Stop::Write)));
         };
@@ -231,7 +273,7 @@ impl<'a> OpenPlay<'a> {
             width,
             record,
         };
-        Ok((opened, cover))
+        Ok((opened, covering))
     }
 
     /// What is typed, as options say. No byte of another line may be read ahead where a question has its answer by a
@@ -241,43 +283,39 @@ impl<'a> OpenPlay<'a> {
     {
         let options = &self.options;
         let bytewise = options.recorded.is_some() || options.saves.is_some();
-        typed(
-            rt,
-            &self.about,
-            self.record.as_ref(),
-            bytewise,
-            options.echo,
-        )
+        let record = match (options.recorded, &self.record) {
+            (Some(path), Some(file)) => Some(RecordFile { path, file }),
+            _ => None,
+        };
+        typed(rt, &self.about, record, bytewise, options.echo)
     }
 
     /// The screen, as options say.
     fn screen<'r>(&'r self, rt: &'r HostRuntime) -> Wrapped<Paged<'r, StandardOutput<'r>>>
         ensures { result.inner.screen.failed ≡ false }
     {
-        let asker = Asker::new(rt, typed(rt, &self.about, None, false, false));
+        let typed = typed(rt, &self.about, None, false, false);
+        let asker = Asker::new(rt, typed, &self.about.input);
         let page = page_by(rt, self.options.page);
         let paged = Paged::new(screen_of(rt, &self.about), asker, page);
         Wrapped::new(paged, self.width)
     }
-
-    /// Tells why the lines that were read could not be recorded, where that is so.
-    fn tell_unrecorded(&self, rt: &HostRuntime) {
-        if let (Some(error), Some(path)) = (self.about.record.failure(), self.options.recorded) {
-            tell_reason(rt, path, &error);
-        }
-    }
 }
 
-/// Plays a story whose files are open, and answers the program's status. Where its instructions stand goes to its
-/// coverage file, if there is one.
-pub fn play<'r>(rt: &'r HostRuntime, opened: &'r OpenPlay<'r>, cover: Option<CoverFile<'r>>) -> u8
+/// Plays a story on the devices of an open play, notes where its instructions stand, and answers the program's status.
+fn play_noting<'r, R: Read + Drop, P: Places>(
+    rt: &'r HostRuntime,
+    opened: &'r OpenPlay<'r>,
+    story: R,
+    places: &mut P,
+) -> u8
     requires { AreInRange opened.now.settings.limits }
 {
     let options = &opened.options;
     let Ok(offered) = name_offered(rt, opened.about.path) else {
         return out_of_memory(rt);
     };
-    let names = Asker::new(rt, opened.input(rt));
+    let names = Asker::new(rt, opened.input(rt), &opened.about.input);
     let mut devices = Devices {
         input: opened.input(rt),
         screen: opened.screen(rt),
@@ -285,28 +323,28 @@ pub fn play<'r>(rt: &'r HostRuntime, opened: &'r OpenPlay<'r>, cover: Option<Cov
         slot: SaveFile::new(rt, place_of(options), names, offered),
     };
     let request = PlayRequest {
-        story: &opened.story,
+        story,
         about: &opened.about,
         settings: opened.settings,
     };
-    let alloc = rt.alloc();
-    let width = opened.width;
     let errors = &mut IoDevice::new(rt.stderr());
-    let status = match cover {
-        None if options.boxes => {
-            play_with_boxes_and_report(alloc, request, devices, &mut Unnoted, width, errors)
-        }
-        None => play_and_report(alloc, request, &mut devices, &mut Unnoted, errors),
-        Some(mut cover) => {
-            let places = &mut cover.cover;
-            let status = if options.boxes {
-                play_with_boxes_and_report(alloc, request, devices, places, width, errors)
-            } else {
-                play_and_report(alloc, request, &mut devices, places, errors)
-            };
-            cover.write(rt, status)
-        }
+    if options.boxes {
+        play_with_boxes_and_report(rt.alloc(), request, devices, places, opened.width, errors)
+    } else {
+        play_and_report(rt.alloc(), request, &mut devices, places, errors)
+    }
+}
+
+/// Plays a story whose files are open, and answers the program's status. Where its instructions stand goes to its
+/// coverage file, if there is one.
+pub fn play<'r>(rt: &'r HostRuntime, opened: &'r OpenPlay<'r>, covering: Option<Covering<'r>>) -> u8
+    requires { AreInRange opened.now.settings.limits }
+{
+    let Some(covering) = covering else {
+        return play_noting(rt, opened, &opened.story, &mut Unnoted);
     };
-    opened.tell_unrecorded(rt);
-    status
+    let Covering { story, file } = covering;
+    let mut file = file;
+    let status = play_noting(rt, opened, story.as_slice(), &mut file.cover);
+    file.write(rt, status)
 }

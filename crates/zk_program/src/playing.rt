@@ -66,7 +66,7 @@ fn note_calls(alloc: Global, about: &About, machine: &Machine, stop: &Stop) {
 }
 
 /// Notes what is told of a stop: where a bad target leads, and which calls led there.
-pub fn note_stop(alloc: Global, about: &About, machine: &Machine, stop: &Stop) {
+pub(crate) fn note_stop(alloc: Global, about: &About, machine: &Machine, stop: &Stop) {
     note_target(about, machine, stop);
     note_calls(alloc, about, machine, stop);
 }

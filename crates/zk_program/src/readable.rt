@@ -3,10 +3,12 @@
 ghost use Rattle.std.specs.Prelude.{◌≡◌, false};
 
 use crate::about::About;
+use crate::cover::Covered;
 use crate::exit::Exit;
 use crate::facts::{Look, look_into};
 use crate::heading::write_heading;
-use crate::listing::{CodeListing, Listing, leave_out};
+use crate::listed::Listed;
+use crate::listing::{CodeListing, ListError, Listing, exit_after, leave_out};
 use crate::play::screen_of;
 use crate::report::report_listing;
 use crate::told::out_of_memory;
@@ -32,8 +34,8 @@ pub struct ListRequest<'a> {
     pub form: Form,
     /// Whether notes stand beside what is listed.
     pub notes: bool,
-    /// The addresses that ran, ascending, where they are marked.
-    pub covered: Option<&'a [u32]>,
+    /// What ran, where it is marked.
+    pub covered: Option<&'a Covered<'a>>,
 }
 
 impl<'a> ListRequest<'a> {
@@ -69,7 +71,7 @@ fn shown_text(
         (Form::Graph, _) => tree_graph(rt.alloc(), facts),
         (Form::Picture, _) => map_picture(rt.alloc(), facts),
         (_, Listing::Code(code)) => match request.covered {
-            Some(covered) => marked(rt.alloc(), facts, code.notes, covered),
+            Some(covered) => marked(rt.alloc(), facts, code.notes, covered.addresses.as_slice()),
             None => plain_lines(rt.alloc(), facts, code.notes),
         },
         (_, Listing::Info(_)) if request.notes => info_notes::explain(rt.alloc(), facts),
@@ -93,52 +95,89 @@ fn tell_missing(
     Ok(())
 }
 
-/// Writes the text that shows a listing, below the story's path where it is one of several.
+/// The text that shows a listing; tells first which of the addresses that are named have nothing.
+fn text_and_missing(
+    rt: &HostRuntime,
+    facts: &Facts<'_>,
+    request: &ListRequest<'_>,
+) -> Result<Vec<u8>, AllocError> {
+    if let Listing::Code(code) = request.listing {
+        tell_missing(rt, facts, &code)?;
+    }
+    shown_text(rt, facts, request)
+}
+
+/// Writes the text that shows a listing, below the story's path where it is one of several. Refused where the write
+/// fails, and for lack of memory.
 fn write_shown(
     rt: &HostRuntime,
     about: &About,
     facts: &Facts<'_>,
     request: &ListRequest<'_>,
-) -> Result<Result<(), Failed>, AllocError> {
-    if let Listing::Code(code) = request.listing {
-        tell_missing(rt, facts, &code)?;
-    }
-    let shown = shown_text(rt, facts, request)?;
+) -> Result<(), ListError> {
+    let Ok(shown) = text_and_missing(rt, facts, request) else {
+        return Err(ListError::Memory);
+    };
     let mut screen = screen_of(rt, about);
-    match write_heading(&mut screen, about.heading, None) {
-        Ok(()) => Ok(write_all(&mut screen, shown.as_slice())),
-        Err(Failed) => Ok(Err(Failed)),
+    let Ok(()) = write_heading(&mut screen, about.heading, None) else {
+        return Err(ListError::Write);
+    };
+    match write_all(&mut screen, shown.as_slice()) {
+        Ok(()) => Ok(()),
+        Err(Failed) => Err(ListError::Write),
+    }
+}
+
+/// Shows what was found, and counts its findings; answers how that ends, or the program's status, where it is told that
+/// the coverage is of another story.
+fn show_found(
+    rt: &HostRuntime,
+    about: &About,
+    look: Look,
+    request: &ListRequest<'_>,
+    counts: &mut Counts,
+) -> Result<Exit, u8> {
+    let Look { exit, found } = look;
+    match (&found, exit) {
+        (Some(found), exit) => {
+            let facts = found.facts();
+            if let Some(covered) = request.covered {
+                covered.see_story(rt, facts.memory)?;
+            }
+            counts.add(facts.list);
+            match write_shown(rt, about, &facts, request) {
+                Ok(()) => Ok(exit),
+                Err(error) => Ok(exit_after(Err(error))),
+            }
+        }
+        (None, exit) => {
+            counts.add_unlisted();
+            Ok(match exit {
+                Exit::Refused(_) | Exit::Unread(_) => {
+                    leave_out(about, exit, &mut screen_of(rt, about))
+                }
+                exit => exit,
+            })
+        }
     }
 }
 
 /// Lists the story in a file in memory, and shows what is made of that, below its path where it is one of several; and
-/// counts its findings. Answers the program's status.
+/// counts its findings.
 pub fn list_readable<'a>(
     rt: &HostRuntime,
     path: &'a str,
     heading: Option<&'a str>,
     request: &ListRequest<'_>,
     counts: &mut Counts,
-) -> u8 {
+) -> Listed {
     let about = About::listed(path, heading);
-    let Look { exit, found } = look_into(rt, &about, path, request.listing());
-    let exit = match (&found, exit) {
-        (Some(found), exit) => {
-            let facts = found.facts();
-            counts.add(facts.list);
-            match write_shown(rt, &about, &facts, request) {
-                Ok(Ok(())) => exit,
-                Ok(Err(Failed)) => Exit::Stopped(Stop::Write),
-                Err(_) => return out_of_memory(rt),
-            }
-        }
-        (None, exit @ (Exit::Refused(_) | Exit::Unread(_))) => {
-            counts.add_unlisted();
-            leave_out(&about, exit, &mut screen_of(rt, &about))
-        }
-        (None, exit) => exit,
+    let look = look_into(rt, &about, path, request.listing());
+    let status = match show_found(rt, &about, look, request, counts) {
+        Ok(exit) => report_listing(rt.alloc(), &exit, &about, &mut IoDevice::new(rt.stderr())),
+        Err(status) => status,
     };
-    report_listing(rt.alloc(), &exit, &about, &mut IoDevice::new(rt.stderr()))
+    Listed::of(status, &about)
 }
 
 /// Writes how many findings of each kind stories have, and answers the program's status: that of the listings, unless

@@ -160,7 +160,12 @@ fn words_on_read(alloc: Global, error: &io::Error, about: &About) -> Result<Stri
     if about.path.contains(NO_TEXT) {
         return format!(in alloc; "{path}: its name is no text (UTF-8)");
     }
-    format!(in alloc; "{path}: {}", Reason(error))
+    match error.kind() {
+        ErrorKind::IsADirectory => format!(in alloc;
+            "{path}: it is a folder: `zkit info --recursive` and `zkit check --recursive` search it"
+        ),
+        _ => format!(in alloc; "{path}: {}", Reason(error)),
+    }
 }
 
 /// Why a story's file is no story, in words.
@@ -185,13 +190,24 @@ fn words_on_device(
     }
 }
 
-/// Why a write failed, in words.
-fn words_on_write(alloc: Global, about: &About) -> Result<String, AllocError> {
+/// Whether a device is a pipe that nobody reads from any more.
+fn is_closed(notes: &DeviceNotes) -> bool {
+    match notes.failure() {
+        Some(error) => error.kind() == ErrorKind::BrokenPipe,
+        None => false,
+    }
+}
+
+/// Why a write failed, in words, unless the screen is closed: then nobody needs them.
+fn words_on_write(alloc: Global, about: &About) -> Result<Option<String>, AllocError> {
     let text = "it accepts no more data";
     if about.script.has_failed() {
-        return words_on_device(alloc, about.script_path, &about.script, text);
+        return Ok(Some(words_on_device(alloc, about.script_path, &about.script, text)?));
     }
-    words_on_device(alloc, "the screen", &about.screen, text)
+    if is_closed(&about.screen) {
+        return Ok(None);
+    }
+    Ok(Some(words_on_device(alloc, "the screen", &about.screen, text)?))
 }
 
 /// What is wrong with an instruction, in words.
@@ -230,9 +246,9 @@ fn words_on(
         }
         Exit::Stopped(Stop::Read) => {
             let text = "a line of it has more than 65535 bytes";
-            Ok(Some(words_on_device(alloc, "standard input", &about.input, text)?))
+            Ok(Some(words_on_device(alloc, "standard input", &about.input.device, text)?))
         }
-        Exit::Stopped(Stop::Write) => Ok(Some(words_on_write(alloc, about)?)),
+        Exit::Stopped(Stop::Write) => words_on_write(alloc, about),
         Exit::Stopped(Stop::Limit(_, limit)) => {
             Ok(Some(with_calls(words_on_limit(alloc, *limit, limits)?, about)?))
         }

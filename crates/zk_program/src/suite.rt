@@ -2,10 +2,12 @@
 
 ghost use Rattle.std.specs.Prelude.{◌≡◌, IfOk, false};
 ghost use Rattle.zk_vm.specs.Bounds.{AreInRange};
+ghost use Rattle.zk_program.specs.Plans.{status_of_suite};
 
 use crate::about::About;
 use crate::playing::{Devices, PlayRequest, play_and_report};
 use crate::session::{Commands, MemorySlot, Session, SessionScreen};
+use crate::told::tell_unwritten;
 use std::fs::File;
 use std::io::{self, ErrorKind, Write};
 use zk_command::manner::Manner;
@@ -13,8 +15,8 @@ use zk_fast::places::Unnoted;
 use zk_suite::difference::Difference;
 use zk_suite::search::contains;
 use zk_suite::walkthrough::{Check, Walkthrough};
-use zk_system::files::{files_of, read_whole};
-use zk_system::reason::{Reason, tell_reason};
+use zk_system::files::{MOST_TEXT, files_of, read_whole};
+use zk_system::reason::Reason;
 use zk_system::shown::Shown;
 use zk_term::echo::Echo;
 use zk_term::io_device::IoDevice;
@@ -258,7 +260,7 @@ fn judge(
     bless: bool,
 ) -> io::Result<bool> {
     let transcript = transcript_path(rt, path)?;
-    let wanted = read_whole(rt, transcript.as_str());
+    let wanted = read_whole(rt, transcript.as_str(), MOST_TEXT);
     match wanted {
         Ok(_) if bless => write_transcript(rt, path, transcript.as_str(), shown),
         Ok(wanted) => compare(rt, path, wanted.as_slice(), shown),
@@ -404,7 +406,7 @@ fn story_of(
 
 /// Tests a walkthrough, says why it fails if it does, and tells whether it has passed.
 fn test_one(rt: &HostRuntime, path: &str, testing: Testing) -> io::Result<bool> {
-    let bytes = match read_whole(rt, path) {
+    let bytes = match read_whole(rt, path, MOST_TEXT) {
         Ok(bytes) => bytes,
         Err(error) => return fail_by(rt, path, path, &error),
     };
@@ -440,26 +442,30 @@ fn test_each(
     Ok((passed, failed))
 }
 
-/// Tests the walkthroughs that paths name, and those in folders, and answers the program's status: 1 where one has
-/// failed, or there is none.
+/// The program's status by how many walkthroughs have passed and failed, and whether all of them could be found: 1
+/// where one has failed, or there is none.
+fn suite_status(passed: u64, failed: u64, all: bool) -> u8
+    ensures { result ≡ status_of_suite passed failed all }
+{
+    if failed == 0 && passed > 0 && all {
+        0
+    } else {
+        1
+    }
+}
+
+/// Tests the walkthroughs that paths name, and those in folders, and answers the program's status.
 fn test_paths(rt: &HostRuntime, paths: &[&str], testing: Testing) -> io::Result<u8> {
     let files = files_of(rt, paths)?;
     let (passed, failed) = test_each(rt, files.paths.as_slice(), paths, testing)?;
     println!(rt; "{passed} passed, {failed} failed")?;
-    if failed == 0 && passed > 0 && files.all {
-        Ok(0)
-    } else {
-        Ok(1)
-    }
+    Ok(suite_status(passed, failed, files.all))
 }
 
 /// Tests walkthroughs, and answers the program's status: 4 where what is said can't be written.
 pub fn test(rt: &HostRuntime, paths: &[&str], testing: Testing) -> u8 {
     match test_paths(rt, paths, testing) {
         Ok(status) => status,
-        Err(error) => {
-            tell_reason(rt, "the screen", &error);
-            4
-        }
+        Err(error) => tell_unwritten(rt, &error),
     }
 }

@@ -1,11 +1,11 @@
 // The story of a Blorb file, written to a file of its own.
 
 use crate::exit::Exit;
-use crate::told::tell_last_line;
+use crate::told::{tell_last_line, tell_unread};
 use std::fs::{self, OpenOptions};
 use std::io::{self, Write};
 use zk_blorb::story::story_in;
-use zk_system::files::read_whole;
+use zk_system::files::{MOST_BLORB, read_whole};
 use zk_system::reason::tell_reason;
 use zk_system::shown::Shown;
 use zk_vm::stop::Stop;
@@ -26,12 +26,9 @@ fn write_new(rt: &HostRuntime, path: &str, bytes: &[u8]) -> io::Result<()> {
 /// Writes the story of a Blorb file to a file that is not there yet, and answers the program's status: 1 where it has
 /// no story, and 4 where a file can't be read or written.
 pub fn unpack(rt: &HostRuntime, path: &str, out: &str) -> u8 {
-    let bytes = match read_whole(rt, path) {
+    let bytes = match read_whole(rt, path, MOST_BLORB) {
         Ok(bytes) => bytes,
-        Err(error) => {
-            tell_reason(rt, path, &error);
-            return tell_last_line(rt, &Exit::Unread(error));
-        }
+        Err(error) => return tell_unread(rt, path, error),
     };
     let story = match story_in(bytes.as_slice()) {
         Ok(story) => story,

@@ -4,7 +4,7 @@ use Rattle.std.specs.List.{cons_option, filter_map}
 use Rattle.std.proofs.Common.{◌≡◌, ℕ, ◌+◌, ◌≤◌, Bool, true, false, List, [], ◌∷◌, ◌++◌, length, Option, Some, None}
 use Rattle.std.proofs.Common.{refl, sym, arith, append_assoc, append-nil}
 use Rattle.std.specs.Str.{bytes_eq}
-use Rattle.zk_suite.specs.Scripts.{Asked, asked_at, is_comment, is_command, command_count, comments, plain_command}
+use Rattle.zk_suite.specs.Scripts.{Asked, asked_at, is_comment, is_command, command_count, comments, typed_command}
 use Rattle.zk_suite.specs.Scripts.{script, typed}
 use Rattle.zk_suite.specs.Scripts.{checks_after, setting_in, first_of}
 
@@ -24,7 +24,7 @@ comment_ends ls e = rw e (refl, refl)
 
 typed_by : (b : Bool) (l : List ℕ) (ls : List (List ℕ)) → is_command l ≡ b → typed (l ∷ ls) ≡ typed (l ∷ []) ++ typed ls
 unfolding typed
-typed_by true l ls e = rw (e, append-nil (plain_command l ++ (10 ∷ []))) refl
+typed_by true l ls e = rw (e, append-nil (typed_command l ++ (10 ∷ []))) refl
 typed_by false l ls e = rw e refl
 
 -- a line before others is typed before them
@@ -49,9 +49,9 @@ pub mapped_none : {A B : Type 0} (f : A → B) (o : Option A) → is_none (optio
 mapped_none {A} {B} f None = refl
 mapped_none {A} {B} f (Some x) = refl
 
-pub typed_one : (l : List ℕ) → is_command l ≡ true → typed (l ∷ []) ≡ plain_command l ++ (10 ∷ [])
+pub typed_one : (l : List ℕ) → is_command l ≡ true → typed (l ∷ []) ≡ typed_command l ++ (10 ∷ [])
 unfolding typed
-typed_one l e = rw e (append-nil (plain_command l ++ (10 ∷ [])))
+typed_one l e = rw e (append-nil (typed_command l ++ (10 ∷ [])))
 
 pub typed_none : (l : List ℕ) → is_command l ≡ false → typed (l ∷ []) ≡ []
 unfolding typed

@@ -8,9 +8,17 @@ use Rattle.std.specs.Str.Lines.{lines}
 
 -- ---- the file
 
--- a file without the byte order mark that it may begin with (EF BB BF)
-abbrev pub without_mark : List ℕ → List ℕ
-without_mark bytes = if starts_with ◌==◌ bytes (0xef ∷ 0xbb ∷ 0xbf ∷ []) then drop 3 bytes else bytes
+-- a byte order mark
+abbrev pub mark : List ℕ
+mark = 0xef ∷ 0xbb ∷ 0xbf ∷ []
+
+-- bytes are a first part of it, or all of it
+abbrev pub begins_mark : List ℕ → Bool
+begins_mark bytes = starts_with ◌==◌ mark bytes
+
+-- a file without the mark that it may begin with
+abbrev pub unmarked : List ℕ → List ℕ
+unmarked bytes = if starts_with ◌==◌ bytes mark then drop 3 bytes else bytes
 
 -- ---- comments
 
@@ -77,12 +85,12 @@ abbrev pub is_command : List ℕ → Bool
 is_command line = is_none (asked line)
 
 -- what is typed by a command: a backslash (92) that it begins with only tells it from other lines
-abbrev pub plain_command : List ℕ → List ℕ
-plain_command line = if starts_with ◌==◌ line (92 ∷ []) then drop 1 line else line
+abbrev pub typed_command : List ℕ → List ℕ
+typed_command line = if starts_with ◌==◌ line (92 ∷ []) then drop 1 line else line
 
 -- commands as they are typed, each with a new line after it
 unfoldable pub typed : List (List ℕ) → List ℕ
-typed ls = flat_map (λ l. plain_command l ++ codes "\n") (filter is_command ls)
+typed ls = flat_map (λ l. typed_command l ++ codes "\n") (filter is_command ls)
 
 -- what is typed in the play of a walkthrough
 abbrev pub commands_of : List ℕ → List ℕ
@@ -90,18 +98,18 @@ commands_of bytes = typed (script (lines bytes))
 
 -- what a command begins with that needs a backslash before it: a number sign (35), an exclamation mark (33) or a
 -- backslash
-abbrev pub needs_backslash : ℕ → Bool
-needs_backslash b = (b == 35) || (b == 33) || (b == 92)
+abbrev pub is_set_apart : ℕ → Bool
+is_set_apart b = (b == 35) || (b == 33) || (b == 92)
 
 -- a line that was typed, as a walkthrough has it
 abbrev pub recorded : List ℕ → List ℕ
 recorded [] = []
-recorded (b ∷ bs) = if needs_backslash b then 92 ∷ b ∷ bs else b ∷ bs
+recorded (b ∷ bs) = if is_set_apart b then 92 ∷ b ∷ bs else b ∷ bs
 
 -- each line that was typed is typed again by its walkthrough: it is no comment, and asks nothing
 abbrev pub RecordedIsTyped : Type 0
 RecordedIsTyped = (line : List ℕ) → (is_comment (recorded line) ≡ false)
-    × (asked (recorded line) ≡ None) × (plain_command (recorded line) ≡ line)
+    × (asked (recorded line) ≡ None) × (typed_command (recorded line) ≡ line)
 
 -- what is asked of the answer to the last of so many commands, by a line of a number
 pub record Asked : Type 0 where

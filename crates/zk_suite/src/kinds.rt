@@ -1,13 +1,23 @@
 // The kinds of lines in a walkthrough.
 
 ghost use Rattle.std.specs.Prelude.{◌≡◌, option_map};
-ghost use Rattle.zk_suite.specs.Scripts.{RecordedIsTyped, asked, is_comment, needs_backslash, without_mark};
+ghost use Rattle.zk_suite.specs.Scripts.{RecordedIsTyped, asked, is_comment, begins_mark, is_set_apart, unmarked};
+
+/// A byte order mark.
+const MARK: &[u8] = b"\xef\xbb\xbf";
+
+/// Whether bytes are a first part of a byte order mark, or all of it.
+pub fn is_mark(bytes: &[u8]) -> bool
+    ensures { result ≡ begins_mark bytes.now }
+{
+    MARK.starts_with(bytes)
+}
 
 /// Bytes without the byte order mark that they may begin with.
 pub fn without_mark(bytes: &[u8]) -> &[u8]
-    ensures { result.now ≡ without_mark bytes.now }
+    ensures { result.now ≡ unmarked bytes.now }
 {
-    if bytes.starts_with(b"\xef\xbb\xbf") {
+    if bytes.starts_with(MARK) {
         &bytes[3..]
     } else {
         bytes
@@ -16,7 +26,7 @@ pub fn without_mark(bytes: &[u8]) -> &[u8]
 
 /// Whether a command needs a backslash before it in a walkthrough, by the byte that it begins with.
 pub fn needs_backslash(first: u8) -> bool
-    ensures { result ≡ needs_backslash first }
+    ensures { result ≡ is_set_apart first }
 {
     first == b'#' || first == b'!' || first == b'\\'
 }

@@ -4,7 +4,7 @@ ghost use Rattle.std.specs.Prelude.{◌≡◌, ◌<◌, ◌≤◌, ◌+◌, ◌^
 ghost use Rattle.std.specs.Prelude.{IfOk, OnOk};
 ghost use Rattle.std.specs.Str.Lines.{lines};
 ghost use Rattle.zk_suite.specs.Scripts.{asked_at, checks_of, command_count, commands_of, comments, first_of, script};
-ghost use Rattle.zk_suite.specs.Scripts.{plain_command, setting_in, settings_of, typed, without_mark};
+ghost use Rattle.zk_suite.specs.Scripts.{typed_command, setting_in, settings_of, typed, unmarked};
 ghost use Rattle.zk_suite.specs.Seen.{check_seen};
 
 use crate::kinds::{asked, is_comment, without_mark};
@@ -88,7 +88,7 @@ fn put_setting<'a>(
 
 /// What is typed by a command.
 fn plain_command(line: &[u8]) -> &[u8]
-    ensures { result.now ≡ plain_command line.now }
+    ensures { result.now ≡ typed_command line.now }
 {
     if line.starts_with(b"\\") {
         &line[1..]
@@ -138,7 +138,7 @@ fn put_check<'a>(
 impl<'a> Walkthrough<'a> {
     /// The walkthrough that bytes are, without a byte order mark before them.
     pub fn of(bytes: &'a [u8]) -> Walkthrough<'a>
-        ensures { result.bytes.now ≡ without_mark bytes.now }
+        ensures { result.bytes.now ≡ unmarked bytes.now }
     {
         Walkthrough {
             bytes: without_mark(bytes),

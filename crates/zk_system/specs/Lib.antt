@@ -2,3 +2,5 @@ pub mod SaveFiles
 pub mod ScriptFiles
 pub mod NoFile
 pub mod Records
+pub mod Files
+pub mod Terminals

@@ -1,11 +1,14 @@
 // Questions at the terminal, or to a pipe.
 
+ghost use Rattle.std.specs.Prelude.{◌≡◌};
+ghost use Rattle.zk_system.specs.Terminals.{is_yes};
+
 use crate::record::Record;
 use crate::shown::Shown;
+use crate::typed_bytes::{InputNotes, TypedBytes};
 use crate::watched::Watched;
 use std::alloc::Global;
 use std::io::Printer;
-use std::rt::Stdin;
 use zk_term::echo::Echo;
 use zk_term::io_device::IoDevice;
 use zk_term::source::Source;
@@ -18,7 +21,7 @@ const MOST_BYTES: u32 = 4096;
 pub type StandardOutput<'a> = IoDevice<Watched<'a, Printer<'a, HostRuntime>>>;
 
 /// What is typed: it is recorded, and then shown, where that is asked for.
-pub type TypedInput<'a> = Echo<Echo<IoDevice<Watched<'a, Stdin>>, Record<'a>>, StandardOutput<'a>>;
+pub type TypedInput<'a> = Echo<Echo<IoDevice<TypedBytes<'a>>, Record<'a>>, StandardOutput<'a>>;
 
 /// Asks on standard error, and reads answers from what is typed, a byte at a time: what comes after an answer is left
 /// for others that read it.
@@ -26,6 +29,7 @@ pub type TypedInput<'a> = Echo<Echo<IoDevice<Watched<'a, Stdin>>, Record<'a>>, S
 pub struct Asker<'a> {
     rt: &'a HostRuntime,
     input: TypedInput<'a>,
+    notes: &'a InputNotes,
 }
 
 /// What is made of an answer's bytes: a text without spaces at its ends, where it is one.
@@ -36,9 +40,16 @@ fn answer_in(alloc: Global, bytes: &[u8]) -> Option<String> {
     String::from_str(alloc, text.trim()).ok()
 }
 
+/// Whether an answer allows what was asked.
+fn is_yes(answer: &[u8]) -> bool
+    ensures { result ≡ is_yes answer.now }
+{
+    answer == b"y".as_slice() || answer == b"Y".as_slice() || answer == b"yes".as_slice()
+}
+
 impl<'a> Asker<'a> {
-    pub fn new(rt: &'a HostRuntime, input: TypedInput<'a>) -> Asker<'a> {
-        Asker { rt, input }
+    pub fn new(rt: &'a HostRuntime, input: TypedInput<'a>, notes: &'a InputNotes) -> Asker<'a> {
+        Asker { rt, input, notes }
     }
 
     /// Reads the bytes of the next line, and tells whether that has come to its end.
@@ -75,10 +86,14 @@ impl<'a> Asker<'a> {
         }
     }
 
-    /// Waits for Enter.
+    /// Waits for Enter. What is typed before that is kept for the next read.
     pub fn wait(&mut self) {
         let _ = eprint!(self.rt; "-- more --");
-        let _ = self.read_answer();
+        let mut bytes = Vec::new(self.rt.alloc());
+        let ended = self.read_line(&mut bytes);
+        if !bytes.is_empty() && (!ended || bytes.push(b'\n').is_ok()) {
+            let _ = self.notes.keep(self.rt.alloc(), bytes.as_slice());
+        }
     }
 
     /// Whether a file may be replaced: only where `y` or `yes` is typed.
@@ -88,7 +103,7 @@ impl<'a> Asker<'a> {
             Shown(name)
         );
         match self.read_answer() {
-            Some(answer) => matches!(answer.as_str(), "y" | "yes" | "Y"),
+            Some(answer) => is_yes(answer.as_bytes()),
             None => false,
         }
     }

@@ -1,16 +1,57 @@
 // Paths: from lists, and of the files in folders.
 
+ghost use Rattle.std.specs.Prelude.{◌≡◌, ◌<◌, ◌^◌, Some, option_map, IfOk, IfSome};
+ghost use Rattle.zk_system.specs.Files.{IsKind, within};
+
 use crate::reason::tell_reason;
-use std::alloc::AllocError;
+use crate::shown::Shown;
+use std::alloc::{AllocError, Global};
 use std::fs::{self, File, Metadata};
-use std::io::{self, Read};
+use std::io::{self, ErrorKind, Read};
 use zk_command::arguments::argument_of;
 
-/// The bytes of a file.
-pub fn read_whole(rt: &HostRuntime, path: &str) -> io::Result<Vec<u8>> {
-    let mut bytes = Vec::new(rt.alloc());
-    File::open(rt, path)?.read_to_end(&mut bytes)?;
-    Ok(bytes)
+/// The most bytes of a list of paths, a walkthrough, a transcript or a coverage file.
+pub const MOST_TEXT: u64 = 67_108_864;
+
+/// The most bytes of a Blorb file.
+pub const MOST_BLORB: u64 = 1_073_741_824;
+
+/// The bytes that a reader gives, where there are at most so many.
+pub(crate) fn read_within<R: Read + Drop>(
+    alloc: Global,
+    reader: R,
+    most: u64,
+) -> io::Result<Option<Vec<u8>>>
+    requires { most < 2 ^ 32 }
+    ensures { IfOk result (λ o. IfSome (R.remaining reader)
+        (λ file. option_map (λ v. v.items) o ≡ within most file)) }
+{
+    let mut bytes = Vec::new(alloc);
+    reader.take(most + 1).read_to_end(&mut bytes)?;
+    if bytes.len() as u64 > most {
+        Ok(None)
+    } else {
+        Ok(Some(bytes))
+    }
+}
+
+/// What a reader gives, unless it is too long: then the error is `FileTooLarge`.
+fn read_bounded<R: Read + Drop>(alloc: Global, reader: R, most: u64) -> io::Result<Vec<u8>>
+    requires { most < 2 ^ 32 }
+    ensures { IfOk result (λ v. IfSome (R.remaining reader)
+        (λ file. Some v.items ≡ within most file)) }
+{
+    match read_within(alloc, reader, most)? {
+        Some(bytes) => Ok(bytes),
+        None => Err(ErrorKind::FileTooLarge.into()),
+    }
+}
+
+/// The bytes of a file of at most so many. One that is longer is an error, `FileTooLarge`.
+pub fn read_whole(rt: &HostRuntime, path: &str, most: u64) -> io::Result<Vec<u8>>
+    requires { most < 2 ^ 32 }
+{
+    read_bounded(rt.alloc(), File::open(rt, path)?, most)
 }
 
 /// The option that names a list of paths.
@@ -37,12 +78,11 @@ fn list_named(arguments: &[String]) -> Option<&str> {
 
 /// The bytes of a list: of standard input for `-`.
 fn read_list(rt: &HostRuntime, path: &str) -> io::Result<Vec<u8>> {
-    if path != "-" {
-        return read_whole(rt, path);
+    if path == "-" {
+        read_bounded(rt.alloc(), rt.stdin(), MOST_TEXT)
+    } else {
+        read_whole(rt, path, MOST_TEXT)
     }
-    let mut bytes = Vec::new(rt.alloc());
-    rt.stdin().read_to_end(&mut bytes)?;
-    Ok(bytes)
 }
 
 /// The paths in a list: each ends with a zero byte where there is one in the list, and else with a new line. Nothing
@@ -71,42 +111,96 @@ pub fn paths_listed(rt: &HostRuntime, arguments: &[String]) -> Option<io::Result
     }
 }
 
-/// Adds the names of what a folder has.
-fn add_names(rt: &HostRuntime, folder: &str, names: &mut Vec<String>) -> io::Result<()> {
+/// Adds the names of what a folder has, but for those that are no text, and tells how many these are.
+fn add_names(rt: &HostRuntime, folder: &str, names: &mut Vec<String>) -> io::Result<u64> {
+    let mut left_out = 0u64;
     for entry in fs::read_dir(rt, folder)? {
-        names.push(String::from_str(rt.alloc(), entry?.file_name())?)?;
+        match entry {
+            Ok(entry) => names.push(String::from_str(rt.alloc(), entry.file_name())?)?,
+            Err(error) if error.kind() == ErrorKind::InvalidFilename => {
+                left_out = left_out.saturating_add(1);
+            }
+            Err(error) => return Err(error),
+        }
     }
-    Ok(())
+    Ok(left_out)
 }
 
-/// Puts the paths of what a folder has on a pile, the first one on top.
-fn pile_up(rt: &HostRuntime, folder: &str, pile: &mut Vec<String>) -> io::Result<()> {
+/// Tells how many names in a folder are no text, where there are some.
+fn tell_left_out(rt: &HostRuntime, folder: &str, count: u64) {
+    let _ = match count {
+        0 => Ok(()),
+        1 => eprintln!(rt;
+            "zkit: {}: 1 name in it is no text (UTF-8), and left out",
+            Shown(folder)
+        ),
+        _ => eprintln!(rt;
+            "zkit: {}: {count} names in it are no text (UTF-8), and left out",
+            Shown(folder)
+        ),
+    };
+}
+
+/// Puts the paths of what a folder has on a pile, the first one on top, and tells whether each name is a text.
+fn pile_up(rt: &HostRuntime, folder: &str, pile: &mut Vec<String>) -> io::Result<bool> {
     let mut names = Vec::new(rt.alloc());
-    add_names(rt, folder, &mut names)?;
+    let left_out = add_names(rt, folder, &mut names)?;
+    tell_left_out(rt, folder, left_out);
     names.sort_unstable();
     let folder = folder.strip_suffix('/').unwrap_or(folder);
     for name in names.iter().rev() {
         pile.push(format!(in rt.alloc(); "{folder}/{name}")?)?;
     }
-    Ok(())
+    Ok(left_out == 0)
 }
 
-/// Whether a path is that of a folder, by what the system tells of it.
-fn is_folder(found: io::Result<Metadata>) -> bool {
+/// What stands at a path.
+#[derive(Clone, Copy, PartialEq, Eq, Drop)]
+enum Kind {
+    Folder,
+    File,
+    /// A device, a pipe or a socket.
+    Other,
+    /// What the system tells nothing of.
+    Unknown,
+}
+
+/// What stands at a path, by what the system tells of it.
+fn kind_of(found: &io::Result<Metadata>) -> Kind
+    ensures { IsKind found.now result }
+{
     match found {
-        Ok(found) => found.is_dir(),
-        Err(_) => false,
+        Ok(found) if found.is_dir() => Kind::Folder,
+        Ok(found) if found.is_file() => Kind::File,
+        Ok(_) => Kind::Other,
+        Err(_) => Kind::Unknown,
     }
 }
 
 /// Whether the files in a folder are looked for: not where a link in another folder leads to it, which may go round in
 /// a circle.
 fn is_followed(rt: &HostRuntime, path: &str, named: &str) -> bool {
-    path == named || is_folder(fs::symlink_metadata(rt, path))
+    path == named || kind_of(&fs::symlink_metadata(rt, path)) == Kind::Folder
+}
+
+/// Puts what a folder has on a pile, and tells why it can't be read where that is so. Whether all of it could be.
+fn open_up(rt: &HostRuntime, folder: &str, pile: &mut Vec<String>) -> bool {
+    match pile_up(rt, folder, pile) {
+        Ok(all) => all,
+        Err(error) => {
+            tell_reason(rt, folder, &error);
+            false
+        }
+    }
+}
+
+/// Tells that what stands in a folder is passed over, since a read may wait for ever.
+fn tell_passed_over(rt: &HostRuntime, path: &str) {
+    let _ = eprintln!(rt; "zkit: {}: no regular file, and left out", Shown(path));
 }
 
 /// Adds the files in a folder and in its folders, each folder's by their names in the order of their bytes, and tells
-/// of a folder that can't be read. Whether all could be read.
+/// of a folder that can't be read, and of what is no file. Whether all could be read.
 fn add_files(rt: &HostRuntime, folder: &str, files: &mut Vec<String>) -> io::Result<bool> {
     let mut all = true;
     let mut pile = Vec::new(rt.alloc());
@@ -115,13 +209,11 @@ fn add_files(rt: &HostRuntime, folder: &str, files: &mut Vec<String>) -> io::Res
         let Some(path) = pile.pop() else {
             break;
         };
-        if !is_folder(fs::metadata(rt, path.as_str())) {
-            files.push(path)?;
-        } else if is_followed(rt, path.as_str(), folder) {
-            if let Err(error) = pile_up(rt, path.as_str(), &mut pile) {
-                tell_reason(rt, path.as_str(), &error);
-                all = false;
-            }
+        match kind_of(&fs::metadata(rt, path.as_str())) {
+            Kind::Folder if !is_followed(rt, path.as_str(), folder) => {}
+            Kind::Folder => all = open_up(rt, path.as_str(), &mut pile) && all,
+            Kind::Other => tell_passed_over(rt, path.as_str()),
+            Kind::File | Kind::Unknown => files.push(path)?,
         }
     }
     Ok(all)
@@ -141,8 +233,8 @@ pub fn files_of(rt: &HostRuntime, paths: &[&str]) -> io::Result<Files> {
         all: true,
     };
     for path in paths {
-        match fs::metadata(rt, *path) {
-            Ok(found) if found.is_dir() => {
+        match kind_of(&fs::metadata(rt, *path)) {
+            Kind::Folder => {
                 let all = add_files(rt, path, &mut files.paths)?;
                 files.all = files.all && all;
             }

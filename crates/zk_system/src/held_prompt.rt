@@ -1,6 +1,6 @@
 // A screen whose open line is held back.
 
-ghost use Rattle.std.specs.Prelude.{◌≡◌, ◌||◌, is_err, OnOk};
+ghost use Rattle.std.specs.Prelude.{◌≡◌, ◌||◌, [], is_err, OnOk};
 
 use crate::paged::line_length;
 use std::alloc::Global;
@@ -50,7 +50,8 @@ impl<S: Target> HeldPrompt<S> {
 
     /// Shows what is held back.
     fn pass_on_held(&mut self) -> Result<(), Failed>
-        ensures { S.failed self.new.screen ≡ (is_err result || S.failed self.old.screen) }
+        ensures held { OnOk result (self.new.held.items ≡ []) }
+        ensures failed { S.failed self.new.screen ≡ (is_err result || S.failed self.old.screen) }
     {
         if self.held.is_empty() {
             return Ok(());
@@ -64,7 +65,7 @@ impl<S: Target> HeldPrompt<S> {
     /// Shows the open line, and lines above it where there are some.
     pub fn show_with(&mut self, above: &[u8]) -> Result<(), Failed>
         ensures failed { S.failed self.new.screen ≡ (is_err result || S.failed self.old.screen) }
-        ensures whole { OnOk result (S.whole self.new.screen) }
+        ensures whole { OnOk result ((self.new.held.items ≡ []) × S.whole self.new.screen) }
     {
         if !above.is_empty() {
             if !self.at_line_start {

@@ -4,11 +4,12 @@ ghost use Rattle.std.specs.Prelude.{◌≡◌};
 ghost use Rattle.zk_system.specs.SaveFiles.{rights_left};
 
 use crate::beside::{is_at, make_beside};
+use crate::files::read_within;
 use crate::no_game::{NoGame, standing};
 use crate::shown::Shown;
 use std::alloc::Global;
 use std::fs::{self, File, Metadata, OpenOptions, Permissions};
-use std::io::{self, ErrorKind, Read, Write};
+use std::io::{self, ErrorKind, Write};
 use std::os::unix::fs::{MetadataExt, PermissionsExt, fchown};
 
 /// The longest file that is a saved game: what is longer counts as none.
@@ -158,11 +159,8 @@ pub(crate) fn find(rt: &HostRuntime, alloc: Global, path: &str) -> Result<Vec<u8
     if standing(fs::metadata(rt, path))?.is_none() {
         return Err(NoGame::Failed(ErrorKind::NotFound.into()));
     }
-    let file = File::open(rt, path)?;
-    let mut bytes = Vec::new(alloc);
-    file.take(MOST_BYTES + 1).read_to_end(&mut bytes)?;
-    if bytes.len() as u64 > MOST_BYTES {
-        return Err(NoGame::TooLong);
+    match read_within(alloc, File::open(rt, path)?, MOST_BYTES)? {
+        Some(bytes) => Ok(bytes),
+        None => Err(NoGame::TooLong),
     }
-    Ok(bytes)
 }

@@ -16,4 +16,5 @@ pub mod save_file;
 pub mod script;
 pub mod shown;
 pub mod terminal;
+pub mod typed_bytes;
 pub mod watched;

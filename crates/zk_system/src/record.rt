@@ -1,37 +1,73 @@
 // The lines that were read, kept in a file.
 
-ghost use Rattle.std.specs.Prelude.{◌≡◌, ◌++◌, codes, decimal, false, is_err};
+ghost use Rattle.std.specs.Prelude.{◌≡◌, ◌++◌, codes, decimal, false, is_err, true};
 ghost use Rattle.zk_term.specs.LineWriters.{Wrote};
 ghost use Rattle.zk_system.specs.Records.{frame_settings, play_settings, record_heading, run_settings, setting};
 ghost use Rattle.zk_system.specs.Records.{view_setting, width_setting};
 
-use crate::watched::Watched;
+use crate::paged::line_length;
+use crate::reason::tell_reason;
 use itoa::Buffer;
 use std::fs::File;
+use std::io::{self, Write};
 use zk_command::settings::Settings;
 use zk_step::state::game_state::View;
-use zk_term::io_device::IoDevice;
+use zk_suite::kinds::needs_backslash;
 use zk_term::line_writer::{LineWriter, TargetWriter};
 use zk_term::target::{Failed, Target};
 use zk_term::writing::write_texts;
 use zk_vm::limits::Limits;
 
-/// The file of a record, where there is one. Without it what it takes is dropped.
+/// The file of a record.
+#[derive(Clone, Copy, Drop)]
+pub struct RecordFile<'a> {
+    pub path: &'a str,
+    pub file: &'a File,
+}
+
+/// A record of the lines that are read, where there is a file for it: one that begins as another line of a walkthrough
+/// gets a backslash before it. Without a file what it takes is dropped. The first write that fails is told on standard
+/// error.
 #[derive(Drop)]
 pub struct Record<'a> {
-    file: Option<IoDevice<Watched<'a, &'a File>>>,
+    rt: &'a HostRuntime,
+    to: Option<RecordFile<'a>>,
+    begins_line: bool,
     failed: bool,
 }
 
 impl<'a> Record<'a> {
-    pub fn new(file: Option<IoDevice<Watched<'a, &'a File>>>) -> Record<'a>
+    pub fn new(rt: &'a HostRuntime, to: Option<RecordFile<'a>>) -> Record<'a>
         ensures { result.failed ≡ false }
     {
         Record {
-            file,
+            rt,
+            to,
+            begins_line: true,
             failed: false,
         }
     }
+
+    /// Notes that a write has failed, and tells why where it is the first one.
+    fn fail(&mut self, path: &str, error: &io::Error) -> Failed
+        ensures { self.new.failed ≡ true }
+    {
+        if !self.failed {
+            tell_reason(self.rt, path, error);
+        }
+        self.failed = true;
+        Failed
+    }
+}
+
+/// Writes bytes of a line, with a backslash before them where they begin one that needs it.
+fn write_part(file: &File, begins_line: bool, part: &[u8]) -> io::Result<()> {
+    let mut file = file;
+    match part.first() {
+        Some(first) if begins_line && needs_backslash(*first) => file.write_all(b"\\")?,
+        _ => {}
+    }
+    file.write_all(part)
 }
 
 impl Target for Record<'_> {
@@ -46,15 +82,17 @@ impl Target for Record<'_> {
     ghost whole = { λ _. Unit {0} };
 
     fn write(&mut self, bytes: &[u8]) -> Result<usize, Failed> {
-        let Some(file) = &mut self.file else {
+        let Some(RecordFile { path, file }) = self.to else {
             return Ok(bytes.len());
         };
-        match file.write(bytes) {
-            Ok(count) => Ok(count),
-            Err(Failed) => {
-                self.failed = true;
-                Err(Failed)
+        let count = line_length(bytes);
+        let part = &bytes[..count];
+        match write_part(file, self.begins_line, part) {
+            Ok(()) => {
+                self.begins_line = part.last() == Some(&b'\n');
+                Ok(count)
             }
+            Err(error) => Err(self.fail(path, &error)),
         }
     }
 

@@ -6,12 +6,24 @@ ghost use Rattle.zk_system.specs.NoFile.{NothingIsKept};
 use crate::asking::Asker;
 use crate::keeping::{Kept, find, keep};
 use crate::no_game::{NoGame, answer_of};
+use crate::reason::tell_reason;
 use crate::shown::Shown;
 use std::alloc::{AllocError, Global};
-use std::fs;
+use std::{fs, mem};
 use zk_command::arguments::NO_TEXT;
 use zk_save::restore::RestoreError;
 use zk_vm::slot::SaveSlot;
+
+/// Tells why no game can be kept in a folder, where that is known: it is not there, or is none.
+pub fn tell_no_folder(rt: &HostRuntime, folder: &str) {
+    match fs::metadata(rt, folder) {
+        Ok(found) if found.is_dir() => {}
+        Ok(_) => {
+            let _ = eprintln!(rt; "zkit: {}: it is no folder", Shown(folder));
+        }
+        Err(error) => tell_reason(rt, folder, &error),
+    }
+}
 
 /// Where saved games are kept.
 #[derive(Clone, Copy, Drop)]
@@ -33,6 +45,8 @@ pub struct SaveFile<'a> {
     asker: Asker<'a>,
     /// The name that is offered in a folder.
     offered: String,
+    /// The name that was offered before, where another was typed.
+    before: Option<String>,
     /// The file that was named last in a folder.
     named: Option<String>,
     told: bool,
@@ -50,6 +64,7 @@ impl<'a> SaveFile<'a> {
             place,
             asker,
             offered,
+            before: None,
             named: None,
             told: false,
         }
@@ -80,8 +95,17 @@ impl<'a> SaveFile<'a> {
             return None;
         }
         let path = format!(in self.rt.alloc(); "{folder}/{name}").ok()?;
-        self.offered = name;
+        self.before = Some(mem::replace(&mut self.offered, name));
         Some(path)
+    }
+
+    /// Offers again what was offered before, since there is no saved game in the file that was named.
+    fn take_back(&mut self)
+        ensures { self.new.place ≡ self.old.place }
+    {
+        if let Some(name) = self.before.take() {
+            self.offered = name;
+        }
     }
 
     /// Keeps a saved game in a file of a folder.
@@ -107,6 +131,9 @@ impl<'a> SaveFile<'a> {
         };
         let found = find_in(self.rt, alloc, path.as_str());
         self.named = Some(path);
+        if !matches!(found, Ok(Some(_))) {
+            self.take_back();
+        }
         found
     }
 }
@@ -171,6 +198,7 @@ impl SaveSlot for SaveFile<'_> {
             tell_refused(self.rt, path, error);
         } else if let Some(path) = &self.named {
             tell_refused(self.rt, path.as_str(), error);
+            self.take_back();
         }
     }
 }

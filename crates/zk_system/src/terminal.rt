@@ -1,5 +1,9 @@
 // What is known of the terminal, and of the clock.
 
+ghost use Rattle.std.specs.Prelude.{◌≡◌, ◌≤◌, SomeIff};
+ghost use Rattle.zk_command.specs.CommandLine.{IsNumberIn, number_in};
+ghost use Rattle.zk_system.specs.Terminals.{names_terminal, shown_size};
+
 use std::time::{SystemTime, UNIX_EPOCH};
 use std::{env, fs};
 
@@ -17,14 +21,19 @@ const COLUMNS: u64 = 80;
 
 const LINES: u64 = 24;
 
+/// Whether a file's name is that of a terminal.
+fn is_terminal_name(name: &[u8]) -> bool
+    ensures { result ≡ names_terminal name.now }
+{
+    let pseudo = name.starts_with(b"/dev/pts/");
+    let line = name.starts_with(b"/dev/tty");
+    pseudo || line || name == b"/dev/console".as_slice()
+}
+
 /// Whether a stream is a terminal, by the name of its file: the standard library has no call for it.
 fn is_terminal(rt: &HostRuntime, stream: &str) -> bool {
     match fs::read_link(rt, stream) {
-        Ok(path) => {
-            let path = path.into_string();
-            let name = path.as_str();
-            name.starts_with("/dev/pts/") || name.starts_with("/dev/tty") || name == "/dev/console"
-        }
+        Ok(path) => is_terminal_name(path.into_string().as_bytes()),
         Err(_) => false,
     }
 }
@@ -39,34 +48,46 @@ pub fn is_told_at(rt: &HostRuntime) -> bool {
     is_terminal(rt, ERRORS)
 }
 
+/// The number that a text says, if it lies in a range.
+fn number_said(text: &str, least: u64, most: u64) -> Option<u64>
+    ensures { SomeIff result (IsNumberIn least most text.now) (number_in text.now) }
+{
+    match text.parse::<u64>() {
+        Ok(n) if n >= least && n <= most => Some(n),
+        _ => None,
+    }
+}
+
 /// The number that a variable of the environment says, if it lies in a range.
-fn number_in(rt: &HostRuntime, variable: &str, least: u64, most: u64) -> Option<u64> {
+fn number_of(rt: &HostRuntime, variable: &str, least: u64, most: u64) -> Option<u64> {
     let Ok(text) = env::var(rt, variable) else {
         return None;
     };
-    match text.parse::<u64>() {
-        Ok(n) if least <= n && n <= most => Some(n),
-        _ => None,
+    number_said(text.as_str(), least, most)
+}
+
+/// How many columns or lines a screen has that is a terminal or not: so many as were said, else as many as are usual.
+fn size_of(is_terminal: bool, said: Option<u64>, usual: u64) -> Option<u64>
+    ensures { result ≡ shown_size is_terminal said usual }
+{
+    if is_terminal {
+        Some(said.unwrap_or(usual))
+    } else {
+        None
     }
 }
 
 /// The columns of the terminal that standard output is: those that `COLUMNS` says, else 80. None where it is no
 /// terminal.
 pub fn columns(rt: &HostRuntime) -> Option<u64> {
-    if is_terminal(rt, OUTPUT) {
-        Some(number_in(rt, "COLUMNS", 20, 255).unwrap_or(COLUMNS))
-    } else {
-        None
-    }
+    let said = number_of(rt, "COLUMNS", 20, 255);
+    size_of(is_terminal(rt, OUTPUT), said, COLUMNS)
 }
 
 /// The lines of the terminal that standard output is, by `LINES`, else 24. None where it is no terminal.
 pub fn lines(rt: &HostRuntime) -> Option<u64> {
-    if is_terminal(rt, OUTPUT) {
-        Some(number_in(rt, "LINES", 3, 1001).unwrap_or(LINES))
-    } else {
-        None
-    }
+    let said = number_of(rt, "LINES", 3, 1001);
+    size_of(is_terminal(rt, OUTPUT), said, LINES)
 }
 
 /// A seed that the clock says: the nanoseconds since the year 1970.

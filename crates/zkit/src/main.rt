@@ -16,33 +16,17 @@ use std::process::ExitCode;
 use zk_command::arguments::{NO_TEXT, argument_of};
 use zk_command::choice::{Choice, choose, story_named, usage_status_of};
 use zk_command::settings::PlayOptions;
-use zk_program::about::About;
-use zk_program::exit::Exit;
 use zk_program::list::list_all;
 use zk_program::play::{OpenPlay, play};
-use zk_program::report::report_listing;
 use zk_program::suite::{Testing, test};
-use zk_program::told::out_of_memory;
+use zk_program::told::{out_of_memory, tell_unread, tell_unwritten};
 use zk_program::unpack::unpack;
 use zk_system::files::paths_listed;
-use zk_system::reason::tell_reason;
 use zk_system::same_file::is_same_file;
 use zk_system::shown::Shown;
-use zk_term::io_device::IoDevice;
-use zk_vm::stop::Stop;
 
 /// So many bytes an argument of the command line has at most.
 const MOST_BYTES: usize = 131_072;
-
-/// Tells why help can't be written, and answers the program's status.
-fn tell_unwritten(rt: &HostRuntime, failure: &io::Error) -> u8
-    ensures { result ≡ 4 }
-{
-    let about = About::new("", "");
-    about.screen.note(failure);
-    let exit = Exit::Stopped(Stop::Write);
-    report_listing(rt.alloc(), &exit, &about, &mut IoDevice::new(rt.stderr()))
-}
 
 /// Shows help, the version or what is wrong with the arguments, and answers the program's status: 4 where help can't be
 /// written.
@@ -144,7 +128,7 @@ fn answer(rt: &HostRuntime, arguments: &[String], paths: Option<&[String]>) -> u
         Ok(Choice::Play { story, options }) => match option_on_story(rt, story, &options) {
             Some(option) => tell_usage(rt, &story_named(rt.alloc(), option)),
             None => match OpenPlay::new(rt, story, options) {
-                Ok((opened, cover)) => play(rt, &opened, cover),
+                Ok((opened, covering)) => play(rt, &opened, covering),
                 Err(status) => status,
             },
         },
@@ -221,10 +205,7 @@ fn main(rt: HostRuntime) -> ExitCode {
             // an empty list asks for nothing
             Some(Ok(paths)) if paths.is_empty() => 0,
             Some(Ok(paths)) => answer(&rt, arguments.as_slice(), Some(paths.as_slice())),
-            Some(Err(error)) => {
-                tell_reason(&rt, "the list of paths", &error);
-                4
-            }
+            Some(Err(error)) => tell_unread(&rt, "the list of paths", error),
         },
         Err(_) => out_of_memory(&rt),
     };

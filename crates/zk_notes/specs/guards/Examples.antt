@@ -13,8 +13,8 @@ use Rattle.zk_notes.specs.Addresses.{address_of}
 use Rattle.zk_notes.specs.Compilers.{compiler_of}
 use Rattle.zk_notes.specs.Counts.{capped, is_finding, is_of}
 use Rattle.zk_notes.specs.Findings.{explained}
-use Rattle.zk_notes.specs.Marks.{fact_ran, instructions_in, marked_line, routines_in, summary_of}
-use Rattle.zk_notes.specs.Union.{address_on, is_no_address}
+use Rattle.zk_notes.specs.Marks.{fact_ran, instruction_of, marked_line, routines_in, summary_of}
+use Rattle.zk_notes.specs.Union.{address_on, is_foreign, is_no_address, story_line, story_of}
 
 -- five hexadecimal digits are an address, four and other signs are none, and 32 bits hold no more
 abbrev pub AddressesAreRead : Type 0
@@ -39,6 +39,25 @@ ListsAreRead =
 -- a story of version 3 whose object table is at 0: the entry of object 2 is at 71
 abbrev pub story : MemoryMap
 story = record { version = 3; static_base = 0; bytes = []; file = 3 ∷ replicate 63 0; undo_states = 0 }
+
+-- the line of a story stands first, and may stand again; that of another story, or of another build, is foreign
+abbrev pub StoriesAreTold : Type 0
+StoriesAreTold =
+    (story_of (lines (codes "story 250712 3f2a 43008\n01234\n")) ≡ Some (codes "story 250712 3f2a 43008"))
+    × (story_of (lines (codes "01234\nstory 250712 3f2a 43008\n")) ≡ None)
+    × (story_of (lines (codes "stories\n")) ≡ None)
+    × (story_of [] ≡ None)
+    × (is_foreign (codes "story 1") (codes "story 1") ≡ false)
+    × (is_foreign (codes "story 1") (codes "story 2") ≡ true)
+    × (is_foreign (codes "story 1") (codes "01234") ≡ false)
+    × (story_line story ≡ codes "story ?????? 0000 64")
+    × (story_line (record {
+      version = 3;
+      static_base = 0;
+      bytes = [];
+      file = 3 ∷ replicate 63 0 ++ 255 ∷ 255 ∷ 1 ∷ [];
+      undo_states = 0;
+    }) ≡ codes "story ?????? 01ff 67")
 
 abbrev pub found : Number → ℕ → Fact
 found n a = fact.Finding (record { number = n; address = a })
@@ -79,7 +98,7 @@ code =
 
 abbrev pub FactsAreMarked : Type 0
 FactsAreMarked =
-    map (fact_ran (0x1001 ∷ 0x1031 ∷ 0x2000 ∷ []) (instructions_in code) (routines_in code)) code
+    map (fact_ran (0x1001 ∷ 0x1031 ∷ 0x2000 ∷ []) (filter_map instruction_of code) (routines_in code)) code
     ≡ true ∷ false ∷ true ∷ true ∷ false ∷ false ∷ false ∷ true ∷ []
 
 -- a plus before what ran, and how much that is
@@ -87,7 +106,7 @@ abbrev pub LinesAreMarked : Type 0
 LinesAreMarked =
     (marked_line true (codes "00001 quit") ≡ codes "+ 00001 quit\n")
     × (marked_line false (codes "00001 quit") ≡ codes "  00001 quit\n")
-    × (summary_of (0x1001 ∷ 0x1031 ∷ []) (instructions_in code) (routines_in code) ≡ codes
+    × (summary_of (0x1001 ∷ 0x1031 ∷ []) (filter_map instruction_of code) (routines_in code) ≡ codes
     "ran: 2 of 3 instructions, 2 of 5 routines\n")
 
 -- the bytes at 60 to 63 are a digit, a full stop and two digits

@@ -1,6 +1,6 @@
 -- Worked examples of walkthroughs, by hand.
 use Rattle.std.specs.Prelude.{◌≡◌, ℕ, true, false, List, [], ◌∷◌, ◌++◌, codes, Some, None}
-use Rattle.zk_suite.specs.Scripts.{commands_of, checks_of, settings_of, setting_in, first_of, recorded, without_mark}
+use Rattle.zk_suite.specs.Scripts.{commands_of, checks_of, settings_of, setting_in, first_of, recorded, unmarked}
 
 abbrev pub walkthrough : List ℕ
 walkthrough =
@@ -53,7 +53,7 @@ BackslashesAreDropped =
 -- a byte order mark is dropped where it is whole, and once
 abbrev pub MarksAreDropped : Type 0
 MarksAreDropped =
-    (without_mark (0xef ∷ 0xbb ∷ 0xbf ∷ codes "# a") ≡ codes "# a")
-    × (without_mark (0xef ∷ 0xbb ∷ 0xbf ∷ 0xef ∷ 0xbb ∷ 0xbf ∷ []) ≡ 0xef ∷ 0xbb ∷ 0xbf ∷ [])
-    × (without_mark (0xef ∷ 0xbb ∷ []) ≡ 0xef ∷ 0xbb ∷ [])
-    × (without_mark (0xef ∷ 0xbb ∷ 0xbe ∷ []) ≡ 0xef ∷ 0xbb ∷ 0xbe ∷ [])
+    (unmarked (0xef ∷ 0xbb ∷ 0xbf ∷ codes "# a") ≡ codes "# a")
+    × (unmarked (0xef ∷ 0xbb ∷ 0xbf ∷ 0xef ∷ 0xbb ∷ 0xbf ∷ []) ≡ 0xef ∷ 0xbb ∷ 0xbf ∷ [])
+    × (unmarked (0xef ∷ 0xbb ∷ []) ≡ 0xef ∷ 0xbb ∷ [])
+    × (unmarked (0xef ∷ 0xbb ∷ 0xbe ∷ []) ≡ 0xef ∷ 0xbb ∷ 0xbe ∷ [])

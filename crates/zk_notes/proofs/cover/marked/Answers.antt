@@ -1,4 +1,4 @@
-use Rattle.std.proofs.Common.{◌∙◌, ap, refl}
+use Rattle.std.proofs.Common.{◌∙◌, ap}
 use Rattle.zk_inspect.specs.Facts.{collected_then}
 use Rattle.zk_notes.specs.Marks.{marked_facts}
 use Rattle.zk_notes.proofs.Collecting.{collected_all, if_ok}
