@@ -20,7 +20,7 @@ from pathlib import Path
 from subprocess import DEVNULL, PIPE, Popen
 
 from case_files import Book, Written
-from cases import ANY, Differs, compiler, last, preloaded, run_cases, same, shown, shown_up_to, takes_preloaded
+from cases import ANY, Differs, compiler, preloaded, run_cases, same, shown, shown_up_to, takes_preloaded
 
 # What the file is called that a saved game is written in.
 BESIDE = re.compile(r"\.zkit-[0-9a-f]{16}")
