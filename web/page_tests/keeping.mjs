@@ -114,6 +114,8 @@ async function forgets(page, isLasting) {
     await page.click("#slots li:first-child button:last-child");
     await page.click("#asking-no");
     await page.until(() => !document.getElementById("asking").open);
+    // the window's own `close` comes behind its end
+    await page.run(() => new Promise((resolve) => setTimeout(() => resolve(true), 50)));
     same(await page.run(() => document.querySelectorAll("#slots li").length), 2, "the number of saved games that are kept");
     await page.click("#slots li:first-child button:last-child");
     await page.click("#asking-yes");
