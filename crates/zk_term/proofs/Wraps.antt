@@ -5,13 +5,13 @@ use Rattle.std.proofs.Common.{length-append}
 use Rattle.std.proofs.lemmas.Bool.Decides.{nat_tests}
 use Rattle.std.proofs.lemmas.List.Sums.{sum_by-append}
 use Rattle.std.specs.List.{join_with_byte, slice_split}
-use Rattle.zk_term.specs.Wrapping.{is_space, begins_character, columns, fits, further_words, all_words, wrapped_line}
-use Rattle.zk_term.specs.Wrapping.{wrapped}
+use Rattle.zk_term.specs.Wrapping.{is_space, begins_character, columns, fits, fits_after_space, further_words, all_words}
+use Rattle.zk_term.specs.Wrapping.{words_after_space, wrapped, wrapped_line}
 use Rattle.zk_term.specs.declared.open_line.LineKind.{LineKind}
-use Rattle.zk_term.specs.declared.open_line.LineKind.TheVariants.{Empty, Row, Words}
+use Rattle.zk_term.specs.declared.open_line.LineKind.TheVariants.{Empty, Row, Words, AfterSpace}
 use Rattle.zk_term.specs.Lines.{is_new_line}
 use Rattle.zk_term.specs.OpenLines.{BreaksLine, EndsLine, GoesOn, HasNoSpace, HoldsBy, HoldsOn, IsFullFor, IsHeld}
-use Rattle.zk_term.specs.OpenLines.{IsOpen, rest_by, rest_of_line, rest_of_text, rest_of_words, Takes, TakesAmongWords}
+use Rattle.zk_term.specs.OpenLines.{IsHeldAfterSpace, IsOpen, rest_after_space, rest_by, rest_of_line, rest_of_text, rest_of_words, Takes, TakesAmongWords}
 use Rattle.zk_term.specs.OpenLines.{TakesInLine, WordsGoOn}
 use Rattle.zk_term.specs.declared.open_line.Line.{Line}
 
@@ -151,6 +151,68 @@ letter_breaks_word width room b word rest plain letter full =
     (further_words width ((width - (columns word + columns (b ∷ [])) + 0) - columns p.first) p.more))
     ∙ rw p.are refl
 
+-- ---- words behind a space that has gone out
+
+first_that_fits : (width room room' : ℕ) (word : List ℕ) (words : List (List ℕ)) → columns word ≤ room
+    → length word ≤ 1024 → room' + columns word ≡ room → words_after_space width room (word ∷ words) ≡ word
+    ++ further_words width room' words
+first_that_fits width room room' word words some short e =
+    let test : fits_after_space room word ≡ true = grind (arith, nat_tests) in
+    let same : room - columns word ≡ room' = omega arith in
+    rw (test, same) refl
+
+first_too_long : (width room : ℕ) (word : List ℕ) (words : List (List ℕ)) → (room < columns word)
+    ⊎ (1024 < length word) → words_after_space width room (word ∷ words) ≡ (10 ∷ word)
+    ++ further_words width (width - columns word) words
+first_too_long width room word words (inl h) =
+    let test : fits_after_space room word ≡ false = grind (arith, nat_tests) in rw test refl
+first_too_long width room word words (inr h) =
+    let test : fits_after_space room word ≡ false = grind (arith, nat_tests) in rw test refl
+
+-- the word goes out before a space
+first_before_a_space : (width room : ℕ) (held rest : List ℕ) → IsHeldAfterSpace held
+    → rest_after_space width room held (32 ∷ rest) ≡ held ++ rest_of_words width room [] (32 ∷ rest)
+first_before_a_space width room held rest h =
+    ap (words_after_space width (room + columns held)) (word_ends held rest h.0)
+    ∙ first_that_fits width (room + columns held) (room + 0 - 0) held (slice_split is_space rest) (omega arith) h.1
+    (omega arith)
+
+-- a byte of it with which it still fits
+first_held : (width room b : ℕ) (held rest : List ℕ) → columns (b ∷ []) ≤ room
+    → rest_after_space width room held (b ∷ rest) ≡ rest_after_space width (room - columns (b ∷ []))
+    (held ++ b ∷ []) rest
+first_held width room b held rest some =
+    let same : room + columns held ≡ (room - columns (b ∷ [])) + columns
+    (held ++ b ∷ []) = omega (arith, columns_both held (b ∷ [])) in
+    ap (λ r. words_after_space width r (slice_split is_space (held ++ b ∷ rest))) same
+    ∙ ap (λ s. words_after_space width ((room - columns (b ∷ [])) + columns (held ++ b ∷ [])) (slice_split is_space s))
+    (sym (append_assoc held (b ∷ []) rest))
+
+-- a byte with which it does not fit any more
+first_breaks : (width room b : ℕ) (held rest : List ℕ) → HasNoSpace held → is_space b ≡ false
+    → (room < columns (b ∷ [])) ⊎ (1024 ≤ length held) → rest_after_space width room held (b ∷ rest)
+    ≡ ((10 ∷ []) ++ held) ++ rest_of_words width (width - columns held) [] (b ∷ rest)
+first_breaks width room b held rest plain letter full =
+    let p = parts is_space rest in
+    let q : Parts is_space (b ∷ rest) = record { first = b ∷ p.first; more = p.more; are = rw (letter, p.are) refl } in
+    let whole : columns (held ++ b ∷ p.first) ≡ columns held + columns (b ∷ p.first) = columns_both held
+    (b ∷ p.first) in
+    let front = columns_first b p.first in
+    let long : (room + columns held < columns (held ++ b ∷ p.first))
+    ⊎ (1024 < length (held ++ b ∷ p.first)) =
+    elim full [
+      | inl h ↦ inl (omega (arith, whole, front))
+      | inr h ↦ inr (omega (arith, length-append held (b ∷ p.first)))
+    ] in
+    let same : width - columns (held ++ b ∷ p.first) ≡ (width - columns held + 0) - columns
+    (b ∷ p.first) = omega (arith, whole) in
+    ap (words_after_space width (room + columns held)) (word_goes_on held (b ∷ rest) plain q)
+    ∙ first_too_long width (room + columns held) (held ++ b ∷ p.first) p.more long
+    ∙ ap (λ r. 10 ∷ ((held ++ b ∷ p.first) ++ further_words width r p.more)) same
+    ∙ ap (λ s. 10 ∷ s) (append_assoc held (b ∷ p.first)
+    (further_words width ((width - columns held + 0) - columns (b ∷ p.first)) p.more))
+    ∙ rw q.are refl
+
 -- ---- steps among words
 
 pub space_breaks : (old new : Line) → old.room ≡ 0 → new.width ≡ old.width → new.kind ≡ old.kind
@@ -237,6 +299,64 @@ letter_breaks_line {S} wrote old mid new a b byte some full broke e =
       given = done.wrote_all;
     }
 
+-- ---- steps behind a space that has gone out
+
+pub first_letter_held : (old new : Line) (b : ℕ) → old.kind ≡ AfterSpace → new.kind ≡ AfterSpace
+    → HoldsOn old new b → is_space b ≡ false → HoldsBy old.kind old.held.items → GoesOn old new b []
+first_letter_held old new b before after on e h =
+    let was : IsHeldAfterSpace old.held.items = rw before at h in record {
+      width = on.width;
+      held = rw (after, on.held) (
+        plain_on old.held.items b was.0 e,
+        omega (arith, on.short, length-append old.held.items (b ∷ [])),
+      );
+      rest = λ rest. rw (before, after, on.width, on.left, on.held) (first_held old.width old.room b old.held.items rest
+          on.room);
+    }
+
+-- a word has gone out, and the line goes on among words
+among_words : (old mid new : Line) (b : ℕ) (out more : List ℕ) → old.kind ≡ AfterSpace → mid.width ≡ old.width
+    → mid.kind ≡ Words → mid.held.items ≡ [] → (IsHeldAfterSpace old.held.items → (rest : List ℕ)
+    → rest_after_space old.width old.room old.held.items (b ∷ rest)
+    ≡ out ++ rest_of_words old.width mid.room [] (b ∷ rest))
+    → (IsHeld mid.held.items → WordsGoOn mid new b more) → HoldsBy old.kind old.held.items
+    → GoesOn old new b (out ++ more)
+among_words old mid new b out more before width kind none on step h =
+    let was : IsHeldAfterSpace old.held.items = rw before at h in
+    let then : WordsGoOn mid new b more = step (rw none tt) in record {
+      width = then.width ∙ width;
+      held = rw (then.kind, kind) then.held;
+      rest = λ rest.
+          rw (before, then.kind, kind) (on was rest ∙ ap (λ l. out ++ l) (rw (width, none) at (then.rest rest))
+          ∙ sym (append_assoc out more (rest_of_words new.width new.room new.held.items rest)));
+    }
+
+pub before_a_space : (old : Line) → IsHeldAfterSpace old.held.items → (rest : List ℕ)
+    → rest_after_space old.width old.room old.held.items (32 ∷ rest)
+    ≡ old.held.items ++ rest_of_words old.width old.room [] (32 ∷ rest)
+before_a_space old h rest = first_before_a_space old.width old.room old.held.items rest h
+
+pub before_a_letter : (old : Line) (b : ℕ) → is_space b ≡ false
+    → (old.room < columns (b ∷ [])) ⊎ (1024 ≤ length old.held.items)
+    → IsHeldAfterSpace old.held.items → (rest : List ℕ)
+    → rest_after_space old.width old.room old.held.items (b ∷ rest) ≡ ((10 ∷ []) ++ old.held.items)
+    ++ rest_of_words old.width (old.width - columns old.held.items) [] (b ∷ rest)
+before_a_letter old b e full h rest = first_breaks old.width old.room b old.held.items rest h.0 e full
+
+-- what went out first, and then what goes out at a byte among words
+pub after_word_goes : {S : Type 0} (wrote : S → S → List ℕ → Type 0)
+    → ((a b c : S) (s t : List ℕ) → wrote a b s → wrote b c t → wrote a c (s ++ t))
+    → (old mid new : Line) (a b c : S) (byte : ℕ) (out : List ℕ) → old.kind ≡ AfterSpace → mid.width ≡ old.width
+    → mid.kind ≡ Words → mid.held.items ≡ [] → (IsHeldAfterSpace old.held.items → (rest : List ℕ)
+    → rest_after_space old.width old.room old.held.items (byte ∷ rest)
+    ≡ out ++ rest_of_words old.width mid.room [] (byte ∷ rest))
+    → wrote a b out → TakesAmongWords wrote mid new b c byte → TakesInLine wrote old new a c byte
+after_word_goes {S} wrote twice old mid new a b c byte out before width kind none on first step = record {
+  text = out ++ step.text;
+  is = among_words old mid new byte out step.text before width kind none on step.is;
+  given = twice a b c out step.text first step.given;
+}
+
 pub no_bytes : (s : List ℕ) → (length s == 0) ≡ true → s ≡ []
 no_bytes [] h = refl
 no_bytes (b ∷ s) h = grind (arith, nat_tests)
@@ -264,6 +384,11 @@ at_the_end Words width room (b ∷ word) h =
     ∙ word_that_fits width (room + columns (32 ∷ word) - 0) room word [] (omega (arith, columns_space word)) h.2
     (omega (arith, columns_space word))
     ∙ append-nil (32 ∷ word))
+at_the_end AfterSpace width room held h =
+    let words : slice_split is_space (held ++ []) ≡ held ∷ [] = rw (append-nil held) (no_space_splits held h.0) in
+    ap (words_after_space width (room + columns held)) words
+    ∙ first_that_fits width (room + columns held) room held [] (omega arith) h.1 (omega arith)
+    ∙ append-nil held
 
 pub open_line : (shown : List ℕ → List ℕ) (line : Line) (text out : List ℕ)
     → ((rest : List ℕ) → shown (text ++ rest) ≡ out ++ rest_of_text line rest) → HoldsBy line.kind line.held.items
@@ -300,6 +425,7 @@ holds_none : (kind : LineKind) (held : List ℕ) → held ≡ [] → HoldsBy kin
 holds_none Empty held e = e
 holds_none Row held e = e
 holds_none Words held e = rw e tt
+holds_none AfterSpace held e = rw e (tt, omega arith)
 
 -- a line that holds nothing back goes on
 pub line_goes_by_itself : (line : Line) → line.held.items ≡ [] → IsOpen (rest_of_text line) line [] []

@@ -2,11 +2,11 @@
 use Rattle.std.specs.Prelude.{◌≡◌, ◌⊎◌, ℕ, ◌+◌, ◌-◌, ◌<◌, ◌≤◌, false, List, [], ◌∷◌, ◌++◌, drop, length, map}
 use Rattle.std.specs.List.{AllByRecursion, join_with_byte, slice_split}
 use Rattle.zk_term.specs.declared.open_line.LineKind.{LineKind}
-use Rattle.zk_term.specs.declared.open_line.LineKind.TheVariants.{Empty, Row, Words}
+use Rattle.zk_term.specs.declared.open_line.LineKind.TheVariants.{Empty, Row, Words, AfterSpace}
 use Rattle.zk_term.specs.declared.open_line.Line.{Line}
 use Rattle.zk_term.specs.Lines.{is_new_line}
 use Rattle.zk_term.specs.LineWriters.{WroteSome}
-use Rattle.zk_term.specs.Wrapping.{is_space, columns, all_words, wrapped_line}
+use Rattle.zk_term.specs.Wrapping.{is_space, columns, all_words, words_after_space, wrapped_line}
 
 -- no byte of a word is a space
 abbrev pub HasNoSpace : List ℕ → Type 0
@@ -17,11 +17,23 @@ abbrev pub IsHeld : List ℕ → Type 0
 IsHeld [] = Unit {0}
 IsHeld (b ∷ word) = (b ≡ 32) × HasNoSpace word × (length word < 1024)
 
+-- nothing is held back, or the front of a word whose space has gone out
+abbrev pub IsHeldAfterSpace : List ℕ → Type 0
+IsHeldAfterSpace word = HasNoSpace word × (length word ≤ 1024)
+
 -- a line holds bytes back only among words
 abbrev pub HoldsBy : LineKind → List ℕ → Type 0
 HoldsBy Empty held = held ≡ []
 HoldsBy Row held = held ≡ []
 HoldsBy Words held = IsHeld held
+HoldsBy AfterSpace held = IsHeldAfterSpace held
+
+-- What a line is of which all that was held back has gone out: the word after a space may still begin a new line, and
+-- a word of which something has gone out stays.
+abbrev pub kind_after : LineKind → List ℕ → LineKind
+kind_after Words (b ∷ []) = AfterSpace
+kind_after AfterSpace (b ∷ word) = Words
+kind_after kind held = kind
 
 -- ---- what is still to come
 
@@ -30,11 +42,17 @@ abbrev pub rest_of_words : ℕ → ℕ → List ℕ → List ℕ → List ℕ
 rest_of_words width room held rest =
     all_words width (room + columns held) (slice_split is_space (held ++ rest))
 
+-- of those after a space that has gone out
+abbrev pub rest_after_space : ℕ → ℕ → List ℕ → List ℕ → List ℕ
+rest_after_space width room held rest =
+    words_after_space width (room + columns held) (slice_split is_space (held ++ rest))
+
 -- of any line
 abbrev pub rest_by : LineKind → ℕ → ℕ → List ℕ → List ℕ → List ℕ
 rest_by Empty width room held rest = wrapped_line width rest
 rest_by Row width room held rest = rest
 rest_by Words width room held rest = rest_of_words width room held rest
+rest_by AfterSpace width room held rest = rest_after_space width room held rest
 
 abbrev pub rest_of_line : Line → List ℕ → List ℕ
 rest_of_line line rest = rest_by line.kind line.width line.room line.held.items rest

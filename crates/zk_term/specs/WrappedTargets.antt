@@ -1,9 +1,9 @@
 -- What a target that wraps a text has given the target behind it.
-use Rattle.std.specs.Prelude.{◌≡◌, ℕ, List, [], ◌++◌, Option, Some, None, Result, Ok, Err, take}
+use Rattle.std.specs.Prelude.{◌≡◌, ◌⊎◌, ℕ, List, [], ◌++◌, Option, Some, None, Result, Ok, Err, take}
 use Rattle.std.specs.Io.KnownBytes.{Appends}
 use Rattle.zk_term.specs.declared.open_line.Line.{Line}
 use Rattle.zk_term.specs.Devices.{TookPart}
-use Rattle.zk_term.specs.OpenLines.{IsOpen, rest_of_text}
+use Rattle.zk_term.specs.OpenLines.{IsOpen, kind_after, rest_of_text}
 use Rattle.zk_term.specs.Wrapping.{wrapped}
 
 -- the width of the lines, where there is one
@@ -16,7 +16,8 @@ abbrev pub from_a_line : Option ℕ → List ℕ → List ℕ
 from_a_line None text = text
 from_a_line (Some width) text = wrapped width text
 
--- a text that goes on in the open line, as it is shown: a word of which something has gone out stays in the line
+-- A text that goes on in the open line, as it is shown: a word of which something has gone out stays in the line, and
+-- one behind a space that has gone out begins a new line where it does not fit.
 abbrev pub in_open_line : Option Line → List ℕ → List ℕ
 in_open_line None text = text
 in_open_line (Some line) text = rest_of_text line text
@@ -36,12 +37,16 @@ abbrev pub HoldsNothing : Option Line → Type 0
 HoldsNothing None = Unit {0}
 HoldsNothing (Some line) = line.held.items ≡ []
 
--- an open line has given out what it held back, and goes on: it has as many columns left
-abbrev pub StaysOpen : Option Line → Option Line → Type 0
-StaysOpen None new = new ≡ None
-StaysOpen (Some line) None = ⊥
-StaysOpen (Some old) (Some new) =
-    (new.width ≡ old.width) × (new.kind ≡ old.kind) × (new.room ≡ old.room)
+-- An open line has given out what it held back, and goes on: it has as many columns left, and a word after a space may
+-- still begin a new line. Where that failed, it may go on as before.
+abbrev pub StaysOpen : {E : Type 0} → Result (Unit {0}) E → Option Line → Option Line → Type 0
+StaysOpen result None new = new ≡ None
+StaysOpen result (Some line) None = ⊥
+StaysOpen (Ok all) (Some old) (Some new) =
+    (new.width ≡ old.width) × (new.room ≡ old.room) × (new.kind ≡ kind_after old.kind old.held.items)
+StaysOpen (Err e) (Some old) (Some new) =
+    (new.width ≡ old.width) × (new.room ≡ old.room)
+    × ((new.kind ≡ old.kind) ⊎ (new.kind ≡ kind_after old.kind old.held.items))
 
 -- A text was written since the target behind had taken what it had at the start: by now it has taken the text too, or a
 -- first part of it as it is shown, of which the open line holds back the rest.

@@ -40,6 +40,19 @@ abbrev pub all_words : ℕ → ℕ → List (List ℕ) → List ℕ
 all_words width room [] = []
 all_words width room (word ∷ words) = word ++ further_words width (room - columns word) words
 
+-- behind a space that has gone out a word fits in so many columns, with no more than 1,024 bytes
+abbrev pub fits_after_space : ℕ → List ℕ → Bool
+fits_after_space room word = nat_lt (columns word) (1 + room) && nat_lt (length word) 1025
+
+-- the words of a line behind a space that has gone out, where so many columns are left in it: a new line stands before
+-- the first one if it does not fit, and the space stays where it is
+abbrev pub words_after_space : ℕ → ℕ → List (List ℕ) → List ℕ
+words_after_space width room [] = []
+words_after_space width room (word ∷ words) =
+    if fits_after_space room word
+    then word ++ further_words width (room - columns word) words
+    else 10 ∷ word ++ further_words width (width - columns word) words
+
 -- a line: a row of the upper window as it is, and any other word by word
 abbrev pub wrapped_line : ℕ → List ℕ → List ℕ
 wrapped_line width line =

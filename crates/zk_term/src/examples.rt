@@ -7,8 +7,9 @@ ghost use Rattle.zk_term.specs.guards.Examples.{TheLastColumn, BelowTheHeight, S
 ghost use Rattle.zk_term.specs.guards.Examples.{SplitsAndTheCursor, SelectedWindows, CursorsOnTheGrid, RestsOfRows};
 ghost use Rattle.zk_term.specs.guards.Examples.{ClearedWindows, UnsplitWindows, GridsThatAreGone, GridsThatStay};
 ghost use Rattle.zk_term.specs.guards.Examples.{TheTallestIsKept, GridsThatAreForgotten, TextsOfRows};
-ghost use Rattle.zk_term.specs.guards.Examples.{CharactersAreColumns, LinesBeginAnew, LinesGoOn, LongWordsStandAlone};
-ghost use Rattle.zk_term.specs.guards.Examples.{RowsAreNotWrapped, SpacesInARow, WordsFillALine, WordsOfManyBytes};
+ghost use Rattle.zk_term.specs.guards.Examples.{CharactersAreColumns, KindsAfterAFlush, LinesBeginAnew, LinesGoOn};
+ghost use Rattle.zk_term.specs.guards.Examples.{LinesGoOnBehindASpace, LongWordsStandAlone, RowsAreNotWrapped, SpacesInARow};
+ghost use Rattle.zk_term.specs.guards.Examples.{WordsFillALine, WordsOfManyBytes};
 
 /// The characters of bytes in UTF-8, and bytes that are none.
 pub fn characters_by_example()
@@ -80,5 +81,7 @@ pub fn wrapped_by_example()
     ensures rows_are_not_wrapped { RowsAreNotWrapped }
     ensures lines_begin_anew { LinesBeginAnew }
     ensures lines_go_on { LinesGoOn }
+    ensures lines_go_on_behind_a_space { LinesGoOnBehindASpace }
+    ensures kinds_after_a_flush { KindsAfterAFlush }
     ensures words_of_many_bytes { WordsOfManyBytes }
 {}

@@ -5,7 +5,7 @@ ghost use Rattle.std.specs.Prelude.{true, false, IfOk, OnOk, OnErr};
 ghost use Rattle.std.specs.Io.KnownBytes.{Appends};
 ghost use Rattle.zk_term.specs.Devices.{TookPart};
 ghost use Rattle.zk_term.specs.OpenLines.{Begins, BreaksLine, EndsLine, HoldsBy, HoldsOn, IsFullFor, IsOpen};
-ghost use Rattle.zk_term.specs.OpenLines.{rest_of_text, Takes, TakesAmongWords, TakesInLine};
+ghost use Rattle.zk_term.specs.OpenLines.{kind_after, rest_of_text, Takes, TakesAmongWords, TakesInLine};
 ghost use Rattle.zk_term.specs.WrappedTargets.{HasTaken};
 ghost use Rattle.zk_term.specs.Wrapping.{columns, is_space, wrapped};
 
@@ -13,16 +13,19 @@ use crate::line_writer::{LineWriter, TargetWriter};
 use crate::target::{Failed, Target, write_all};
 use arrayvec::ArrayVec;
 
-/// What has come of an open line: nothing, the front of a row of the upper window, or words.
+/// What has come of an open line: nothing, the front of a row of the upper window, words, or words and a space behind
+/// them that has gone out.
 #[derive(Clone, Copy, Drop)]
 pub enum LineKind {
     Empty,
     Row,
     Words,
+    AfterSpace,
 }
 
-/// The open line of a text that is wrapped. The last word that has come is held back with the space before it, as long
-/// as it fits in the line: the first word never is. `room` is how many columns are left after it.
+/// The open line of a text that is wrapped. The last word that has come is held back with the space before it, if that
+/// has not gone out, as long as it fits in the line: the first word never is. `room` is how many columns are left after
+/// it.
 #[derive(Drop)]
 pub struct Line {
     width: usize,
@@ -58,6 +61,17 @@ fn kind_by(byte: u8) -> LineKind
         LineKind::Row
     } else {
         LineKind::Words
+    }
+}
+
+/// What a line is of which all that was held back has gone out.
+fn kind_after_flush(kind: LineKind, held: &[u8]) -> LineKind
+    ensures { result ≡ kind_after kind held.now }
+{
+    match kind {
+        LineKind::Words if held.len() == 1 => LineKind::AfterSpace,
+        LineKind::AfterSpace if !held.is_empty() => LineKind::Words,
+        other => other,
     }
 }
 
@@ -152,6 +166,27 @@ impl Line {
         }
     }
 
+    /// Takes a byte behind a space that has gone out, or behind the front of a word that stands there and is held back.
+    /// Where the word does not fit, a new line goes out before it.
+    fn take_after_space<P: LineWriter>(&mut self, writer: &mut P, byte: u8)
+        ensures width { self.new.width ≡ self.old.width }
+        ensures taken { self.old.kind ≡ LineKind.AfterSpace
+            → TakesInLine P.wrote self.old self.new writer.old writer.new byte }
+    {
+        if byte != b' ' {
+            if self.hold(byte) {
+                return;
+            }
+            writer.write(b"\n");
+            let taken = all_columns_of(self.held.as_slice());
+            self.room = self.width.saturating_sub(taken);
+        }
+        writer.write(self.held.as_slice());
+        self.held.clear();
+        self.kind = LineKind::Words;
+        self.take_among_words(writer, byte);
+    }
+
     /// Looks at the first byte of a line, whether it is a bar.
     fn begin(&mut self, byte: u8)
         ensures width { self.new.width ≡ self.old.width }
@@ -171,6 +206,7 @@ impl Line {
         self.begin(byte);
         match self.kind {
             LineKind::Row => writer.write(&[byte]),
+            LineKind::AfterSpace => self.take_after_space(writer, byte),
             LineKind::Empty | LineKind::Words => self.take_among_words(writer, byte),
         }
     }
@@ -224,10 +260,13 @@ impl Line {
     }
 
     /// Gives a target what is held back, or where a write fails a first part. The line goes on: a word of which
-    /// something has gone out stays in it.
+    /// something has gone out stays in it, and one behind a space that has gone out begins a new line if it does not
+    /// fit.
     pub fn flush<T: Target>(&mut self, target: &mut T) -> Result<(), Failed>
         ensures width { self.new.width ≡ self.old.width }
-        ensures kind { self.new.kind ≡ self.old.kind }
+        ensures kind { OnOk result
+            (self.new.kind ≡ kind_after self.old.kind self.old.held.items) }
+        ensures same { OnErr result (self.new.kind ≡ self.old.kind) }
         ensures room { self.new.room ≡ self.old.room }
         ensures all { OnOk result
             (Appends (T.taken target.old) (T.taken target.new) self.old.held.items) }
@@ -239,6 +278,7 @@ impl Line {
     {
         match write_all(target, self.held.as_slice()) {
             Ok(()) => {
+                self.kind = kind_after_flush(self.kind, self.held.as_slice());
                 self.held.clear();
                 Ok(())
             }

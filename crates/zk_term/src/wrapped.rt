@@ -56,7 +56,7 @@ impl<T: Target> Wrapped<T> {
 
     /// Gives out what it holds back, and so does the target behind. The open line goes on.
     pub fn give_out(&mut self) -> Result<(), Failed>
-        ensures same { StaysOpen self.old.line self.new.line }
+        ensures same { StaysOpen result self.old.line self.new.line }
         ensures written { HasFlushed self.old.line (T.taken self.old.inner)
             (T.taken self.new.inner) result }
         ensures goes_on { OnOk result (HasWritten (in_open_line self.new.line)

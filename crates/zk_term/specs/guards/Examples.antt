@@ -2,10 +2,11 @@
 -- and no definition made them.
 use Rattle.std.specs.Prelude.{◌≡◌, ℕ, List, [], ◌∷◌, ◌++◌, Some, None, replicate, codes}
 use Rattle.zk_term.specs.declared.lines.InputEnd.TheVariants as over
+use Rattle.zk_term.specs.declared.open_line.LineKind.TheVariants.{Empty, Row, Words, AfterSpace}
 use Rattle.zk_term.specs.declared.windows.Window.TheVariants.{Lower, Upper}
 use Rattle.zk_term.specs.Characters.{characters_of, line_codes}
 use Rattle.zk_term.specs.Lines.{Heard, heard}
-use Rattle.zk_term.specs.OpenLines.{rest_of_words}
+use Rattle.zk_term.specs.OpenLines.{kind_after, rest_after_space, rest_of_words}
 use Rattle.zk_term.specs.Wrapping.{wrapped}
 use Rattle.zk_term.specs.Windows.{Windows, first_windows, split, window_selected, cleared, unsplit, forgotten}
 use Rattle.zk_term.specs.Windows.{line_erased, cursor_set, next_row, printed, row_text, tallest_height}
@@ -377,6 +378,35 @@ LinesGoOn =
     × (rest_of_words 10 5 [] (codes "ef ghi") ≡ codes "ef" ++ 10 ∷ codes "ghi")
     × (rest_of_words 10 2 [] (codes "efgh i") ≡ codes "efgh" ++ 10 ∷ codes "i")
     × (rest_of_words 10 0 [] (codes " ef") ≡ 10 ∷ codes "ef")
+
+-- behind a space that has gone out, a word that does not fit begins a new line: 15 letters and a space leave 4 columns
+-- of 20
+abbrev pub LinesGoOnBehindASpace : Type 0
+LinesGoOnBehindASpace =
+    (rest_after_space 20 4 [] (codes "tenletters") ≡ 10 ∷ codes "tenletters")
+    × (rest_after_space 20 4 [] (codes "four") ≡ codes "four")
+    × (rest_after_space 20 4 [] (codes "fiver") ≡ 10 ∷ codes "fiver")
+    × (rest_after_space 20 4 [] (codes "fiver six seven eleven")
+    ≡ 10 ∷ codes "fiver six seven" ++ 10 ∷ codes "eleven")
+    × (rest_after_space 20 4 [] (codes "one two") ≡ codes "one" ++ 10 ∷ codes "two")
+    × (rest_after_space 20 4 [] (codes " one") ≡ codes " one")
+    × (rest_after_space 20 4 [] (codes " four") ≡ 10 ∷ codes "four")
+    × (rest_after_space 20 0 [] (codes "a") ≡ 10 ∷ codes "a")
+    × (rest_after_space 20 0 [] (codes " a") ≡ 10 ∷ codes "a")
+    × (rest_after_space 20 4 [] [] ≡ [])
+    × (rest_after_space 20 1 (codes "ab") (codes "cd e") ≡ 10 ∷ codes "abcd e")
+    × (rest_after_space 20 2 (codes "ab") (codes "cd e") ≡ codes "abcd" ++ 10 ∷ codes "e")
+
+-- a lone space that has gone out is such a space; of a word, or at the front of a line, it is none
+abbrev pub KindsAfterAFlush : Type 0
+KindsAfterAFlush =
+    (kind_after Words (codes " ") ≡ AfterSpace)
+    × (kind_after Words (codes " a") ≡ Words)
+    × (kind_after Words [] ≡ Words)
+    × (kind_after AfterSpace [] ≡ AfterSpace)
+    × (kind_after AfterSpace (codes "a") ≡ Words)
+    × (kind_after Empty [] ≡ Empty)
+    × (kind_after Row [] ≡ Row)
 
 -- bytes that begin no character take no column, but a word of more than 1,023 bytes does not fit
 abbrev pub WordsOfManyBytes : Type 0
