@@ -1,6 +1,7 @@
 // Playing walkthroughs, and comparing what they show with their transcripts.
 
-ghost use Rattle.std.specs.Prelude.{◌≡◌, IfOk, false};
+ghost use Rattle.std.specs.Prelude.{◌≡◌, IfOk, false, nat_lt};
+ghost use Rattle.std.specs.List.{count_by};
 ghost use Rattle.zk_vm.specs.Bounds.{AreInRange};
 ghost use Rattle.zk_program.specs.Plans.{status_of_suite};
 
@@ -214,20 +215,68 @@ fn fail_check(
     Ok(false)
 }
 
-/// Compares what was shown with a transcript, and says where they differ.
-fn compare(rt: &HostRuntime, path: &str, wanted: &[u8], shown: &[u8]) -> io::Result<bool> {
-    match Difference::of(wanted, shown) {
-        None => Ok(true),
-        Some(difference) => {
-            println!(rt;
-                "FAILED {}: output differs from line {}",
-                Shown(path),
-                difference.line()
-            )?;
-            print!(rt; "{difference}")?;
-            Ok(false)
-        }
+/// Says that a test has failed at the last of so many commands, and why: with the line of the walkthrough and the
+/// command, if there is one.
+fn fail_at(
+    rt: &HostRuntime,
+    path: &str,
+    walkthrough: &Walkthrough,
+    commands: usize,
+    reason: &str,
+) -> io::Result<()> {
+    let command = match commands.checked_sub(1) {
+        Some(others) => walkthrough.command(others),
+        None => None,
+    };
+    let Some(command) = command else {
+        return println!(rt; "FAILED {}: {reason}", Shown(path));
+    };
+    let text = String::from_utf8_lossy(rt.alloc(), command.text)?;
+    println!(rt;
+        "FAILED {}: line {}: {reason}: {}",
+        Shown(path),
+        command.line,
+        Shown(text.as_str())
+    )
+}
+
+/// How many bytes stand before a line of a text, from 1.
+fn bytes_before(text: &[u8], line: usize) -> usize {
+    let mut before = 0usize;
+    for line in text
+        .split(|byte| *byte == b'\n')
+        .take(line.saturating_sub(1))
+    {
+        before = before.saturating_add(line.len()).saturating_add(1);
     }
+    before
+}
+
+/// How many commands were asked for before a byte of what was shown, by how much of it there was at each.
+fn asked_before(asked: &[usize], byte: usize) -> usize
+    ensures { result ≡ count_by (λ at. nat_lt at byte) asked.now }
+{
+    asked.iter().filter(|at| **at < byte).count()
+}
+
+/// Compares what was shown with a transcript, and says where they differ.
+fn compare(
+    rt: &HostRuntime,
+    path: &str,
+    walkthrough: &Walkthrough,
+    wanted: &[u8],
+    played: &Played,
+) -> io::Result<bool> {
+    let shown = played.text.as_slice();
+    let Some(difference) = Difference::of(wanted, shown) else {
+        return Ok(true);
+    };
+    let line = difference.line();
+    let commands = asked_before(played.asked.as_slice(), bytes_before(shown, line));
+    let reason = format!(in rt.alloc(); "output differs from line {line} of its transcript")?;
+    fail_at(rt, path, walkthrough, commands, reason.as_str())?;
+    print!(rt; "{difference}")?;
+    Ok(false)
 }
 
 /// Writes what was shown as a transcript, and says so.
@@ -255,15 +304,17 @@ fn write_transcript(
 fn judge(
     rt: &HostRuntime,
     path: &str,
-    shown: &[u8],
+    walkthrough: &Walkthrough,
+    played: &Played,
     has_checks: bool,
     bless: bool,
 ) -> io::Result<bool> {
     let transcript = transcript_path(rt, path)?;
     let wanted = read_whole(rt, transcript.as_str(), MOST_TEXT);
+    let shown = played.text.as_slice();
     match wanted {
         Ok(_) if bless => write_transcript(rt, path, transcript.as_str(), shown),
-        Ok(wanted) => compare(rt, path, wanted.as_slice(), shown),
+        Ok(wanted) => compare(rt, path, walkthrough, wanted.as_slice(), played),
         Err(error) if error.kind() != ErrorKind::NotFound => {
             fail_by(rt, path, transcript.as_str(), &error)
         }
@@ -277,24 +328,22 @@ fn judge(
 fn judge_played(
     rt: &HostRuntime,
     path: &str,
-    played: &Played,
-    checks: &[Check],
+    walkthrough: &Walkthrough,
     commands: &[u8],
+    played: &Played,
     bless: bool,
 ) -> io::Result<bool> {
     if played.status != 0 {
-        println!(rt;
-            "FAILED {}: the play ended with status {}",
-            Shown(path),
-            played.status
-        )?;
+        let reason = format!(in rt.alloc(); "the play ended with status {}", played.status)?;
+        fail_at(rt, path, walkthrough, played.asked.len(), reason.as_str())?;
         write_lines(rt, played.errors.as_slice(), SHOWN_LINES)?;
         return Ok(false);
     }
-    if !hold(rt, path, checks, played, commands)? {
+    let checks = walkthrough.checks(rt.alloc())?;
+    if !hold(rt, path, checks.as_slice(), played, commands)? {
         return Ok(false);
     }
-    judge(rt, path, played.text.as_slice(), !checks.is_empty(), bless)
+    judge(rt, path, walkthrough, played, !checks.is_empty(), bless)
 }
 
 /// Tests a walkthrough on a story, as settings say.
@@ -309,16 +358,8 @@ fn test_on(
     requires { AreInRange manner.settings.limits }
 {
     let commands = walkthrough.commands(rt.alloc())?;
-    let checks = walkthrough.checks(rt.alloc())?;
     let played = play_commands(rt, story, manner, commands.as_slice());
-    judge_played(
-        rt,
-        path,
-        &played,
-        checks.as_slice(),
-        commands.as_slice(),
-        bless,
-    )
+    judge_played(rt, path, walkthrough, commands.as_slice(), &played, bless)
 }
 
 /// Whether one of some settings has a name.

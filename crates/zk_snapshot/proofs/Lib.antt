@@ -1,6 +1,7 @@
 pub mod Summing
 pub mod Written
 pub mod Filled
+pub mod Gone
 pub mod Waits
 pub mod Codes
 pub mod Kept

@@ -1,3 +1,4 @@
 pub mod Grown
 pub mod SameStates
 pub mod Unique
+pub mod Again

@@ -8,7 +8,8 @@ use Rattle.zk_state.specs.Frames.{bounds_of}
 use Rattle.zk_term.specs.Windows.{forgotten}
 use Rattle.zk_step.specs.declared.state.game_state.GameState.{GameState}
 use Rattle.zk_vm.specs.Sessions.{Session}
-use Rattle.zk_snapshot.specs.Snapshots.{HasSnapshot, fitting, kept_bytes, snapshot_with}
+use Rattle.zk_snapshot.specs.Opening.{IsOpened}
+use Rattle.zk_snapshot.specs.Snapshots.{HasSnapshot, fitting, kept_bytes, snapshot_of, snapshot_with}
 
 -- a game state whose screen has forgotten the grid that is gone
 abbrev pub without_gone : GameState → GameState
@@ -45,3 +46,9 @@ IsOfOnePlay a b = (m n : ℕ) → snapshot_with (newest m a) a ≡ snapshot_with
 abbrev pub FitsNewest : List ℕ → List WholeState → Type 0
 FitsNewest file ws = (most : ℕ) → ((n : ℕ) × (fitting file most ws ≡ take n ws))
     × (length (flat_map (kept_bytes file) (fitting file most ws)) ≤ most)
+
+-- what is opened of a snapshot of a machine is that machine, with the states to go back to that the snapshot kept, and
+-- no grid that is gone
+abbrev pub OpensAgain : Session → Session → Type 0
+OpensAgain s opened = (most : ℕ) → IsOpened s.state.game.memory.file (snapshot_of most s) opened
+    → opened ≡ with_kept (fitting s.state.game.memory.file most s.state.undo) s

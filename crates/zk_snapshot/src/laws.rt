@@ -2,7 +2,7 @@
 
 ghost use Rattle.std.specs.Prelude.{◌≡◌, ℕ, List};
 ghost use Rattle.zk_save.specs.States.{WholeState};
-ghost use Rattle.zk_snapshot.specs.Laws.{FitsNewest, IsKept, IsOfOnePlay};
+ghost use Rattle.zk_snapshot.specs.Laws.{FitsNewest, IsKept, IsOfOnePlay, OpensAgain};
 ghost use Rattle.zk_snapshot.specs.Snapshots.{HasSnapshot};
 
 use zk_vm::machine::Machine;
@@ -30,6 +30,17 @@ pub fn one_play(first: &Machine, second: &Machine)
 {
     is_kept(first);
     is_kept(second);
+}
+
+/// What `open_snapshot` makes of what `snapshot` wrote is the machine itself, with the states to go back to that the
+/// snapshot kept, and without a grid that is gone.
+pub fn opens_again(machine: &Machine, opened: &Machine)
+    requires waits { HasSnapshot machine.now }
+    requires opened { HasSnapshot opened.now }
+    ensures { OpensAgain machine.now opened.now }
+{
+    is_kept(machine);
+    is_kept(opened);
 }
 
 /// What a snapshot keeps of states to go back to are the newest, and these take no more bytes than it was told.

@@ -3,10 +3,11 @@
 ghost use Rattle.std.specs.Prelude.{◌≡◌, true, take, drop, IfOk, IfErr, IfSome, MatchResult, Some, None};
 ghost use Rattle.zk_save.specs.States.{AreOf};
 ghost use Rattle.zk_state.specs.Frames.{bounds_of};
-ghost use Rattle.zk_snapshot.specs.Opening.{head_refusal, refusal_by, IsOpened, IsRefused};
+ghost use Rattle.zk_snapshot.specs.Opening.{head_refusal, refusal_by, IsMade, IsOpened, IsRefused};
+ghost use Rattle.zk_snapshot.specs.Opening.{NothingGone};
 ghost use Rattle.zk_vm.specs.Bounds.{AreInRange};
 ghost use Rattle.zk_vm.specs.Step.{is_read};
-ghost use Rattle.zk_snapshot.specs.Snapshots.{story_bytes, HasSnapshot};
+ghost use Rattle.zk_snapshot.specs.Snapshots.{story_bytes};
 
 use crate::reading::{
     Front, GameFront, Reader, fill_frames, fill_states, fill_windows, front_in, game_front_in,
@@ -97,7 +98,7 @@ fn machine_in(
 ) -> Result<Option<Machine>, AllocError>
     requires { memory.undo_states ≡ undo_states }
     ensures { IfOk result (λ found. IfSome found
-        (λ m. HasSnapshot m × (m.state.game.memory.file ≡ memory.file))) }
+        (λ m. IsMade memory.file m)) }
 {
     let mut reader = Reader::new(bytes);
     let front = front_in(&mut reader);
@@ -123,6 +124,7 @@ fn machine_in(
 fn game_of(front: GameFront, memory: Memory, frames: Frames, windows: Windows) -> GameState
     ensures memory { result.memory ≡ memory }
     ensures frames { result.frames ≡ frames }
+    ensures windows { result.windows ≡ windows }
 {
     GameState {
         frames,
@@ -148,8 +150,9 @@ fn waiting_machine(
     requires most { undo.most ≡ front.limits.undo }
     requires are_of { AreOf game.memory game.frames undo }
     requires read { is_read front.event ≡ true }
+    requires gone { NothingGone game.windows }
     ensures { IfOk result (λ found. IfSome found
-        (λ m. HasSnapshot m × (m.state.game.memory.file ≡ game.memory.file))) }
+        (λ m. IsMade game.memory.file m)) }
 {
     let place = front.place;
     let limits = front.limits;

@@ -4,7 +4,9 @@
 ghost use Rattle.std.specs.Prelude.{◌≡◌, ◌<◌, ◌≤◌, true, length};
 ghost use Rattle.zk_save.specs.States.{AreOf};
 ghost use Rattle.zk_state.specs.Frames.{bounds_of};
+ghost use Rattle.zk_snapshot.specs.Opening.{NothingGone};
 ghost use Rattle.zk_step.specs.Laws.{fixed_parts};
+ghost use Rattle.zk_term.specs.Windows.{first_windows};
 ghost use Rattle.zk_vm.specs.Step.{is_read};
 
 use arrayvec::ArrayVec;
@@ -192,7 +194,10 @@ pub(crate) fn game_front_in(reader: &mut Reader<'_>) -> GameFront {
 }
 
 /// Puts a row's characters into the upper window.
-fn fill_row(reader: &mut Reader<'_>, windows: &mut Windows, row: u16) {
+#[tactic(auto, using(crate::proofs::Gone::set_gone, crate::proofs::Gone::put_gone))]
+fn fill_row(reader: &mut Reader<'_>, windows: &mut Windows, row: u16)
+    ensures { NothingGone windows.old → NothingGone windows.new }
+{
     let count = reader.byte();
     windows.set_cursor(row, 1);
     for _i in 0..count {
@@ -201,7 +206,14 @@ fn fill_row(reader: &mut Reader<'_>, windows: &mut Windows, row: u16) {
 }
 
 /// Puts the cursor where it stood, which may be past the last row or column.
-fn put_cursor(windows: &mut Windows, row: u16, column: u8) {
+#[tactic(auto, using(
+    crate::proofs::Gone::set_gone,
+    crate::proofs::Gone::put_gone,
+    crate::proofs::Gone::row_gone
+))]
+fn put_cursor(windows: &mut Windows, row: u16, column: u8)
+    ensures { NothingGone windows.old → NothingGone windows.new }
+{
     if row == 1 && column == 81 {
         let last = windows.row(1).get(79).copied().unwrap_or(' ');
         windows.set_cursor(1, 80);
@@ -215,7 +227,11 @@ fn put_cursor(windows: &mut Windows, row: u16, column: u8) {
 }
 
 /// Fills an upper window that is new.
-pub(crate) fn fill_windows(reader: &mut Reader<'_>, windows: &mut Windows) {
+#[tactic(auto, using(crate::proofs::Gone::split_gone, crate::proofs::Gone::select_gone))]
+pub(crate) fn fill_windows(reader: &mut Reader<'_>, windows: &mut Windows)
+    requires { windows.old ≡ first_windows }
+    ensures { NothingGone windows.new }
+{
     let height = reader.byte();
     let row = reader.word();
     let column = reader.byte();

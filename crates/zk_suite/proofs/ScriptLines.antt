@@ -1,12 +1,12 @@
 -- The lines of a walkthrough, one after the other.
-use Rattle.std.specs.Prelude.{option_to_list, is_none, option_map, cond}
+use Rattle.std.specs.Prelude.{option_to_list, is_none, is_some, not, option_map, cond, slice_get}
 use Rattle.std.specs.List.{cons_option, filter_map}
-use Rattle.std.proofs.Common.{◌≡◌, ℕ, ◌+◌, ◌≤◌, Bool, true, false, List, [], ◌∷◌, ◌++◌, length, Option, Some, None}
+use Rattle.std.proofs.Common.{◌≡◌, ℕ, suc, ◌+◌, ◌≤◌, Bool, true, false, List, [], ◌∷◌, ◌++◌, length, Option, Some, None}
 use Rattle.std.proofs.Common.{refl, sym, arith, append_assoc, append-nil}
 use Rattle.std.specs.Str.{bytes_eq}
-use Rattle.zk_suite.specs.Scripts.{Asked, asked_at, is_comment, is_command, command_count, comments, typed_command}
+use Rattle.zk_suite.specs.Scripts.{Asked, asked, asked_at, is_comment, is_command, command_count, comments, typed_command}
 use Rattle.zk_suite.specs.Scripts.{script, typed}
-use Rattle.zk_suite.specs.Scripts.{checks_after, setting_in, first_of}
+use Rattle.zk_suite.specs.Scripts.{checks_after, commands_after, setting_in, first_of}
 
 pub comment_on : (ls rest : List (List ℕ)) (l : List ℕ) → ls ≡ l ∷ rest → true ≡ is_comment l
     → (script ls ≡ script rest) × (length (comments ls) ≡ 1 + length (comments rest))
@@ -49,6 +49,11 @@ pub mapped_none : {A B : Type 0} (f : A → B) (o : Option A) → is_none (optio
 mapped_none {A} {B} f None = refl
 mapped_none {A} {B} f (Some x) = refl
 
+pub is_command_by : {A : Type 0} (f : A → Bool × List ℕ) (o : Option A) (l : List ℕ) (b : Bool)
+    → option_map f o ≡ asked l → is_some o ≡ b → is_command l ≡ not b
+is_command_by {A} f None l b e h = rw (← e, ← h) refl
+is_command_by {A} f (Some x) l b e h = rw (← e, ← h) refl
+
 pub typed_one : (l : List ℕ) → is_command l ≡ true → typed (l ∷ []) ≡ typed_command l ++ (10 ∷ [])
 unfolding typed
 typed_one l e = rw e (append-nil (typed_command l ++ (10 ∷ [])))
@@ -71,6 +76,27 @@ one_by false = omega arith
 
 pub count_small : (l : List ℕ) → command_count l ≤ 1
 count_small l = one_by (is_command l)
+
+-- ---- commands by their numbers
+
+pub command_passed : (n i : ℕ) (l : List ℕ) (ls : List (List ℕ)) → is_command l ≡ false
+    → slice_get (commands_after n (l ∷ ls)) i ≡ slice_get (commands_after (n + 1) ls) i
+unfolding commands_after
+command_passed n i l ls e = rw e refl
+
+pub command_here : (n : ℕ) (l : List ℕ) (ls : List (List ℕ)) → is_command l ≡ true
+    → slice_get (commands_after n (l ∷ ls)) 0 ≡ Some (record { line = n + 1; text = typed_command l })
+unfolding commands_after
+command_here n l ls e = rw e refl
+
+pub command_behind : (n i : ℕ) (l : List ℕ) (ls : List (List ℕ)) → is_command l ≡ true
+    → slice_get (commands_after n (l ∷ ls)) (suc i) ≡ slice_get (commands_after (n + 1) ls) i
+unfolding commands_after
+command_behind n i l ls e = rw e refl
+
+pub no_command : (n i : ℕ) (ls : List (List ℕ)) → ls ≡ [] → slice_get (commands_after n ls) i ≡ None
+unfolding commands_after
+no_command n i ls e = rw e refl
 
 -- ---- settings
 

@@ -136,3 +136,20 @@ checks_after commands line (l ∷ ls) =
 -- what a walkthrough asks; its lines are numbered from 1, comments too
 abbrev pub checks_of : List ℕ → List Asked
 checks_of bytes = checks_after 0 (length (comments (lines bytes))) (script (lines bytes))
+
+-- a command as it is typed, and the number of its line
+pub record Command : Type 0 where
+  pub line : ℕ
+  pub text : List ℕ
+
+-- the commands that lines are, after so many lines
+unfoldable pub commands_after : ℕ → List (List ℕ) → List Command
+commands_after line [] = []
+commands_after line (l ∷ ls) =
+    if is_command l
+    then record { line = line + 1; text = typed_command l } ∷ commands_after (line + 1) ls
+    else commands_after (line + 1) ls
+
+-- the commands of a walkthrough; its lines are numbered from 1, comments too
+abbrev pub numbered_commands : List ℕ → List Command
+numbered_commands bytes = commands_after (length (comments (lines bytes))) (script (lines bytes))

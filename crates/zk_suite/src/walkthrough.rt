@@ -1,11 +1,11 @@
 // Walkthroughs.
 
 ghost use Rattle.std.specs.Prelude.{◌≡◌, ◌<◌, ◌≤◌, ◌+◌, ◌^◌, ◌++◌, [], ◌∷◌, length, map, option_map, option_to_list};
-ghost use Rattle.std.specs.Prelude.{IfOk, OnOk};
+ghost use Rattle.std.specs.Prelude.{IfOk, OnOk, slice_get};
 ghost use Rattle.std.specs.Str.Lines.{lines};
 ghost use Rattle.zk_suite.specs.Scripts.{asked_at, checks_of, command_count, commands_of, comments, first_of, script};
-ghost use Rattle.zk_suite.specs.Scripts.{typed_command, setting_in, settings_of, typed, unmarked};
-ghost use Rattle.zk_suite.specs.Seen.{check_seen};
+ghost use Rattle.zk_suite.specs.Scripts.{numbered_commands, typed_command, setting_in, settings_of, typed, unmarked};
+ghost use Rattle.zk_suite.specs.Seen.{check_seen, command_seen};
 
 use crate::kinds::{asked, is_comment, without_mark};
 use crate::lines::cut_line;
@@ -53,6 +53,15 @@ pub struct Check<'a> {
     /// Whether the answer has to have the text, or must not.
     pub wanted: bool,
     /// The text.
+    pub text: &'a [u8],
+}
+
+/// A command of a walkthrough.
+#[derive(Clone, Copy, Drop)]
+pub struct Command<'a> {
+    /// The line of the walkthrough, from 1.
+    pub line: usize,
+    /// What is typed, without a new line.
     pub text: &'a [u8],
 }
 
@@ -192,6 +201,32 @@ impl<'a> Walkthrough<'a> {
             rest = cut.rest;
         }
         Ok(out)
+    }
+
+    /// The command before which so many others stand, if there is one.
+    pub fn command(&self, others: usize) -> Option<Command<'a>>
+        ensures { option_map command_seen result
+            ≡ slice_get (numbered_commands self.now.bytes.now) others }
+    {
+        let script = script_in(self.bytes);
+        let mut rest = script.rest;
+        let mut number = script.comments;
+        let mut left = others;
+        while let Some(cut) = cut_line(rest) {
+            number += 1;
+            rest = cut.rest;
+            if asked(cut.line).is_some() {
+                continue;
+            }
+            if left == 0 {
+                return Some(Command {
+                    line: number,
+                    text: plain_command(cut.line),
+                });
+            }
+            left -= 1;
+        }
+        None
     }
 
     /// What is asked of answers, in order; `AllocError` where there is no memory for the list.

@@ -1,6 +1,6 @@
 -- Worked examples of walkthroughs, by hand.
 use Rattle.std.specs.Prelude.{◌≡◌, ℕ, true, false, List, [], ◌∷◌, ◌++◌, codes, Some, None}
-use Rattle.zk_suite.specs.Scripts.{commands_of, checks_of, settings_of, setting_in, first_of, recorded, unmarked}
+use Rattle.zk_suite.specs.Scripts.{commands_of, checks_of, numbered_commands, settings_of, setting_in, first_of, recorded, unmarked}
 
 abbrev pub walkthrough : List ℕ
 walkthrough =
@@ -16,6 +16,11 @@ ScriptsAreRead =
     ∷ record { commands = 1; line = 7; wanted = true; text = codes "You are" }
     ∷ record { commands = 1; line = 8; wanted = false; text = codes "It is dark" }
     ∷ record { commands = 3; line = 11; wanted = true; text = codes "A hall" }
+    ∷ [])
+    × (numbered_commands walkthrough ≡
+    record { line = 6; text = codes "look" }
+    ∷ record { line = 9; text = [] }
+    ∷ record { line = 10; text = codes "# east" }
     ∷ [])
     × (settings_of walkthrough ≡ (codes "story", codes "a.z5") ∷ (codes "seed", codes "7") ∷ [])
     × (first_of (codes "seed") (settings_of walkthrough) ≡ Some (codes "7"))
@@ -46,6 +51,8 @@ abbrev pub BackslashesAreDropped : Type 0
 BackslashesAreDropped =
     (commands_of (92 ∷ codes "# x\n" ++ 92 ∷ codes "! west\n" ++ 92 ∷ 92 ∷ codes "a\nb" ++ 92 ∷ codes "\n")
     ≡ codes "# x\n! west\n" ++ 92 ∷ codes "a\nb" ++ 92 ∷ codes "\n")
+    × (numbered_commands (92 ∷ codes "! x\n! y\n" ++ 92 ∷ 92 ∷ codes "a") ≡
+    record { line = 1; text = codes "! x" } ∷ record { line = 3; text = 92 ∷ codes "a" } ∷ [])
     × (recorded (codes "! west") ≡ 92 ∷ codes "! west")
     × (recorded (codes "#") ≡ 92 ∷ codes "#")
     × (recorded (codes "a!") ≡ codes "a!")
