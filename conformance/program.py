@@ -143,19 +143,31 @@ class Cases(Written):
             self.check((ANY, ANY, NOT_SAVED + "permission denied\n"), SAVE)
             same(OLD, self.read("kept"))
 
+    def check_calls(self) -> None:
+        """The game is on the disk, with the rights of the old one, before it takes that one's place."""
+        self.kept_before()
+        library = preloaded("refused_calls.c", self.folder)
+        self.run(SAVE, env={**os.environ, "LD_PRELOAD": library, "CALLS": "1"})
+        names = (self.read("calls") or b"").decode().split()
+        (self.folder / "calls").unlink(missing_ok=True)
+        same(["write", "fchown", "fchmod", "fsync", "rename"], names[-5:])
+
     def check_refusals(self) -> None:
-        """A save in which any call of the system is refused leaves the old game or the new one, whole."""
+        """A save in which any call of the system is refused leaves the old game or the new one, whole, and no file
+        beside it, unless that one can't be taken away."""
         library = preloaded("refused_calls.c", self.folder)
         for number in range(1, 100):
             self.kept_before()
             status, _, _ = self.run(SAVE, env={**os.environ, "LD_PRELOAD": library, "REFUSED": str(number)})
-            held = self.read("kept")
+            held, refused = self.read("kept"), (self.read("refused") or b"").decode().strip()
             for name in self.new():
+                if name.startswith(".zkit-") and refused != "unlink":
+                    raise Differs(f"call {number}, {refused}, refused: {name} is left")
                 if name.startswith((".zkit-", "kept")):
                     (self.folder / name).unlink()
             if held not in (OLD, GAME):
-                raise Differs(f"call {number} refused: {held!r}")
-            if self.read("refused") is None:
+                raise Differs(f"call {number}, {refused}, refused: {held!r}")
+            if not refused:
                 return same((True, 0, GAME), (number > 8, status, held), f"{number - 1} calls")
             (self.folder / "refused").unlink()
         raise Differs("a save has no end")
@@ -177,6 +189,7 @@ class Cases(Written):
             self.case("play --save open/kept saves_on.z3, by who may not give it away", self.check_other_owner)
         self.case(f"{SAVE}, where kept may not be written", self.check_unwritable)
         if compiler() and takes_preloaded(self.command):
+            self.case(f"{SAVE}, by its calls of the system", self.check_calls)
             self.case(f"{SAVE}, with each call of the system refused", self.check_refusals)
 
     # ---- who reads what is shown

@@ -1,8 +1,10 @@
 -- Coverage files: the story, and the addresses of the instructions that ran.
-use Rattle.std.specs.Prelude.{◌≡◌, ℕ, ◌+◌, Bool, true, false, List, [], ◌∷◌, ◌++◌, codes, nat_lt, Option, Some, None}
+use Rattle.std.specs.Prelude.{◌≡◌, ◌⊎◌, ℕ, ◌+◌, Bool, true, false, List, [], ◌∷◌, ◌++◌, codes, nat_lt, Option, Some}
+use Rattle.std.specs.Prelude.{None}
 use Rattle.std.specs.Prelude.{◌-◌, length, slice_get}
 use Rattle.std.specs.Prelude.{if◌then◌else◌}
 use Rattle.std.specs.List.{flat_map, list_any}
+use Rattle.std.specs.Str.{IsUtf8}
 use Rattle.std.specs.Str.Lines.{lines}
 use Rattle.zk_term.specs.Numbers.{address_digits}
 use Rattle.zk_notes.specs.Union.{IsUnion, is_foreign, story_of}
@@ -29,6 +31,13 @@ pub record HasCoverage (bytes story addresses : List ℕ) : Type 0 where
   pub told : story_of (lines bytes) ≡ Some story
   pub no_other : list_any (is_foreign story) (lines bytes) ≡ false
   pub union : IsUnion addresses (lines bytes)
+
+-- nothing is read of a file that is no text, does not begin with the line of a story, or has a line of another kind
+abbrev pub HasNoCoverage : List ℕ → Type 0
+HasNoCoverage bytes =
+    (IsUtf8 bytes → ⊥)
+    ⊎ ((story_of (lines bytes) ≡ None)
+    ⊎ ((story : List ℕ) × (story_of (lines bytes) ≡ Some story) × (list_any (is_foreign story) (lines bytes) ≡ true)))
 
 -- the last of addresses lies below a bound, where there is one
 abbrev pub last_within : Option ℕ → ℕ → Bool

@@ -1,7 +1,8 @@
 // Files with the addresses of instructions that ran.
 
-ghost use Rattle.std.specs.Prelude.{◌≡◌, ◌<◌, ◌^◌, ◌++◌, length, IfOk, IfSome, OnOk};
-ghost use Rattle.zk_program.specs.Covers.{HasCoverage, address_line, are_within, marked_line, text_of_cover};
+ghost use Rattle.std.specs.Prelude.{◌≡◌, ◌<◌, ◌^◌, ◌++◌, length, IfOk, MatchOption, OnOk};
+ghost use Rattle.zk_program.specs.Covers.{HasCoverage, HasNoCoverage, address_line, are_within, marked_line};
+ghost use Rattle.zk_program.specs.Covers.{text_of_cover};
 
 use crate::exit::Exit;
 use crate::told::{out_of_memory, tell_last_line, tell_unread};
@@ -36,7 +37,9 @@ fn list_in<'a>(
     path: &'a str,
     bytes: &[u8],
 ) -> Result<Option<Covered<'a>>, AllocError>
-    ensures { IfOk result (λ o. IfSome o (λ c. HasCoverage bytes.now c.story.bytes.items c.addresses.items)) }
+    ensures { IfOk result (λ o. MatchOption o
+        (λ c. HasCoverage bytes.now c.story.bytes.items c.addresses.items)
+        (HasNoCoverage bytes.now)) }
 {
     let Ok(text) = str::from_utf8(bytes) else {
         return Ok(None);

@@ -1,9 +1,10 @@
 // Playing walkthroughs, and comparing what they show with their transcripts.
 
-ghost use Rattle.std.specs.Prelude.{◌≡◌, IfOk, false, nat_lt};
+ghost use Rattle.std.specs.Prelude.{◌≡◌, ◌↔◌, IfOk, IsTrue, false, map, nat_lt};
 ghost use Rattle.std.specs.List.{count_by};
 ghost use Rattle.zk_vm.specs.Bounds.{AreInRange};
-ghost use Rattle.zk_program.specs.Plans.{status_of_suite};
+ghost use Rattle.zk_program.specs.Plans.{IsHeld, IsJudging, is_tested, status_of_suite};
+ghost use Rattle.zk_suite.specs.Texts.{Occurs};
 
 use crate::about::About;
 use crate::playing::{Devices, PlayRequest, play_and_report};
@@ -172,6 +173,13 @@ fn answer_to<'a>(played: &'a Played, commands: &[u8], count: usize) -> Option<&'
         .get(start.checked_add(command.len())?.checked_add(1)?..end)
 }
 
+/// Whether an answer has what a check asks.
+fn is_held(check: &Check, answer: &[u8]) -> bool
+    ensures { IsTrue result ↔ IsHeld check.now.wanted (Occurs check.now.text.now answer.now) }
+{
+    contains(answer, check.text) == check.wanted
+}
+
 /// Says of the first check that does not hold, if there is one, and tells whether all hold.
 fn hold(
     rt: &HostRuntime,
@@ -184,7 +192,7 @@ fn hold(
         let Some(answer) = answer_to(played, commands, check.commands) else {
             return fail_check(rt, path, check, "the play ended before its command", b"");
         };
-        if contains(answer, check.text) != check.wanted {
+        if !is_held(check, answer) {
             let reason = if check.wanted {
                 "missing from the reply"
             } else {
@@ -299,6 +307,33 @@ fn write_transcript(
     }
 }
 
+/// What is done about the transcript of a walkthrough whose checks hold.
+#[derive(Clone, Copy, Drop)]
+enum Judging {
+    Compare,
+    Write,
+    /// Nothing: its checks are enough.
+    Pass,
+    /// It fails, since there is none.
+    Missing,
+    /// It fails, since the file can't be read.
+    Unread,
+}
+
+/// What is done about a transcript, by what its file gave, and by whether there are checks and one is to be written.
+fn judging(found: &io::Result<Vec<u8>>, has_checks: bool, bless: bool) -> Judging
+    ensures { IsJudging found.now has_checks bless result }
+{
+    match found {
+        Ok(_) if bless => Judging::Write,
+        Ok(_) => Judging::Compare,
+        Err(error) if error.kind() != ErrorKind::NotFound => Judging::Unread,
+        Err(_) if has_checks => Judging::Pass,
+        Err(_) if bless => Judging::Write,
+        Err(_) => Judging::Missing,
+    }
+}
+
 /// Looks whether what was shown is what a transcript has, or writes one where that is asked for. Where there are checks
 /// no transcript is needed.
 fn judge(
@@ -312,15 +347,14 @@ fn judge(
     let transcript = transcript_path(rt, path)?;
     let wanted = read_whole(rt, transcript.as_str(), MOST_TEXT);
     let shown = played.text.as_slice();
-    match wanted {
-        Ok(_) if bless => write_transcript(rt, path, transcript.as_str(), shown),
-        Ok(wanted) => compare(rt, path, walkthrough, wanted.as_slice(), played),
-        Err(error) if error.kind() != ErrorKind::NotFound => {
-            fail_by(rt, path, transcript.as_str(), &error)
+    match (judging(&wanted, has_checks, bless), wanted) {
+        (Judging::Compare, Ok(wanted)) => {
+            compare(rt, path, walkthrough, wanted.as_slice(), played)
         }
-        Err(_) if has_checks => Ok(true),
-        Err(_) if bless => write_transcript(rt, path, transcript.as_str(), shown),
-        Err(_) => fail(rt, path, "it has no transcript; --bless writes one"),
+        (Judging::Write, _) => write_transcript(rt, path, transcript.as_str(), shown),
+        (Judging::Unread, Err(error)) => fail_by(rt, path, transcript.as_str(), &error),
+        (Judging::Missing, _) => fail(rt, path, "it has no transcript; --bless writes one"),
+        (Judging::Pass | Judging::Compare | Judging::Unread, _) => Ok(true),
     }
 }
 
@@ -458,6 +492,14 @@ fn test_one(rt: &HostRuntime, path: &str, testing: Testing) -> io::Result<bool> 
     test_with(rt, path, &walkthrough, story.as_str(), testing.bless)
 }
 
+/// Whether a file is tested that was found by names: other files in a folder are no walkthroughs.
+fn is_tested(path: &str, named: &[&str]) -> bool
+    ensures { result ≡ is_tested path.now (map (λ n. n.now) named.now) }
+{
+    let path = path.as_bytes();
+    path.ends_with(WALKTHROUGH.as_bytes()) || named.iter().any(|name| name.as_bytes() == path)
+}
+
 /// Tests walkthroughs, one after another, says of each how it went, and tells how many have passed and failed.
 fn test_each(
     rt: &HostRuntime,
@@ -469,8 +511,7 @@ fn test_each(
     let mut failed = 0u64;
     for path in paths {
         let path = path.as_str();
-        // other files in a folder are no walkthroughs
-        if !path.ends_with(WALKTHROUGH) && !named.iter().any(|name| *name == path) {
+        if !is_tested(path, named) {
             continue;
         }
         if test_one(rt, path, testing)? {

@@ -27,7 +27,8 @@ character_gone c w h = put_by (nat_le w.row w.height && nat_le w.column 80) w _ 
 
 pub put_gone : (c : ℕ) (w : Windows) → NothingGone w → NothingGone (character_printed c w)
 unfolding character_printed
-put_gone c w h = put_by (c == 10) (moved_right (character_put c w)) (next_row 1 w) (character_gone c w h) (row_gone 1 w h)
+put_gone c w h =
+    put_by (c == 10) (moved_right (character_put c w)) (next_row 1 w) (character_gone c w h) (row_gone 1 w h)
 
 pub select_gone : (window : Window) (w : Windows) → NothingGone w → NothingGone (window_selected window w)
 unfolding window_selected

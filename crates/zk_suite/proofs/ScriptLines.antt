@@ -4,8 +4,8 @@ use Rattle.std.specs.List.{cons_option, filter_map}
 use Rattle.std.proofs.Common.{◌≡◌, ℕ, suc, ◌+◌, ◌≤◌, Bool, true, false, List, [], ◌∷◌, ◌++◌, length, Option, Some, None}
 use Rattle.std.proofs.Common.{refl, sym, arith, append_assoc, append-nil}
 use Rattle.std.specs.Str.{bytes_eq}
-use Rattle.zk_suite.specs.Scripts.{Asked, asked, asked_at, is_comment, is_command, command_count, comments, typed_command}
-use Rattle.zk_suite.specs.Scripts.{script, typed}
+use Rattle.zk_suite.specs.Scripts.{Asked, asked, asked_at, is_comment, is_command, command_count, comments}
+use Rattle.zk_suite.specs.Scripts.{script, typed, typed_command}
 use Rattle.zk_suite.specs.Scripts.{checks_after, commands_after, setting_in, first_of}
 
 pub comment_on : (ls rest : List (List ℕ)) (l : List ℕ) → ls ≡ l ∷ rest → true ≡ is_comment l

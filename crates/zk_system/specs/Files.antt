@@ -1,5 +1,8 @@
 -- What stands at a path, and what is read of it.
-use Rattle.std.specs.Prelude.{ℕ, List, length, nat_le, Option, Some, None, Result, Ok, Err, if◌then◌else◌}
+use Rattle.std.specs.Prelude.{ℕ, ◌==◌, ◌&&◌, ◌||◌, Bool, not, List, [], codes, length, nat_le, Option, Some, None}
+use Rattle.std.specs.Prelude.{Result, Ok, Err, if◌then◌else◌}
+use Rattle.std.specs.List.{list_any}
+use Rattle.std.specs.Str.{bytes_eq}
 use Rattle.std.specs.Fs.{IsDir, IsFile, file_type}
 use Rattle.std.specs.declared.fs.attrs.Metadata.{Metadata}
 use Rattle.std.specs.declared.io.Error.{Error}
@@ -17,3 +20,13 @@ IsKind found kind = ⊥
 -- the bytes of a file, where there are at most so many
 abbrev pub within : ℕ → List ℕ → Option (List ℕ)
 within most file = if nat_le (length file) most then Some file else None
+
+-- a text names a file in a folder: it has no slash (47) and no zero byte, and is no name of a folder
+abbrev pub names_file : List ℕ → Bool
+names_file name =
+    not (bytes_eq name [] || (bytes_eq name (codes ".") || bytes_eq name (codes "..")))
+    && not (list_any (λ b. (b == 47) || (b == 0)) name)
+
+-- what the paths of a list end with: zero bytes where the list has one, and else new lines
+abbrev pub path_end : List ℕ → ℕ
+path_end list = if list_any (λ b. b == 0) list then 0 else 10

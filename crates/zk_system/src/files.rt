@@ -1,7 +1,7 @@
 // Paths: from lists, and of the files in folders.
 
 ghost use Rattle.std.specs.Prelude.{◌≡◌, ◌<◌, ◌^◌, Some, option_map, IfOk, IfSome};
-ghost use Rattle.zk_system.specs.Files.{IsKind, within};
+ghost use Rattle.zk_system.specs.Files.{IsKind, path_end, within};
 
 use crate::reason::tell_reason;
 use crate::shown::Shown;
@@ -85,10 +85,20 @@ fn read_list(rt: &HostRuntime, path: &str) -> io::Result<Vec<u8>> {
     }
 }
 
-/// The paths in a list: each ends with a zero byte where there is one in the list, and else with a new line. Nothing
-/// between two of these is no path.
+/// What the paths of a list end with: zero bytes where the list has one, and else new lines.
+fn path_end(list: &[u8]) -> u8
+    ensures { result ≡ path_end list.now }
+{
+    if list.iter().any(|byte| *byte == 0) {
+        0
+    } else {
+        b'\n'
+    }
+}
+
+/// The paths in a list. Nothing between two of their ends is no path.
 fn paths_in(rt: &HostRuntime, bytes: &[u8]) -> Result<Vec<String>, AllocError> {
-    let end = if bytes.contains(&0) { 0 } else { b'\n' };
+    let end = path_end(bytes);
     let mut paths = Vec::new(rt.alloc());
     for path in bytes.split(|byte| *byte == end) {
         if !path.is_empty() {

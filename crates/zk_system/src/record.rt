@@ -3,7 +3,7 @@
 ghost use Rattle.std.specs.Prelude.{◌≡◌, ◌++◌, codes, decimal, false, is_err, true};
 ghost use Rattle.zk_term.specs.LineWriters.{Wrote};
 ghost use Rattle.zk_system.specs.Records.{frame_settings, play_settings, record_heading, run_settings, setting};
-ghost use Rattle.zk_system.specs.Records.{view_setting, width_setting};
+ghost use Rattle.zk_system.specs.Records.{LinesAreRecorded, recorded_part, view_setting, width_setting};
 
 use crate::paged::line_length;
 use crate::reason::tell_reason;
@@ -60,13 +60,25 @@ impl<'a> Record<'a> {
     }
 }
 
+/// What stands before a part of a line: a backslash where it begins one that needs it.
+fn before_part(begins_line: bool, part: &[u8]) -> &'static [u8]
+    ensures { result.now ++ part.now ≡ recorded_part begins_line part.now }
+{
+    match part.first() {
+        Some(first) if begins_line && needs_backslash(*first) => b"\\",
+        _ => b"",
+    }
+}
+
+/// A line that was read is recorded as its walkthrough has it, in whatever parts it came.
+pub fn lines_are_recorded()
+    ensures { LinesAreRecorded }
+{}
+
 /// Writes bytes of a line, with a backslash before them where they begin one that needs it.
 fn write_part(file: &File, begins_line: bool, part: &[u8]) -> io::Result<()> {
     let mut file = file;
-    match part.first() {
-        Some(first) if begins_line && needs_backslash(*first) => file.write_all(b"\\")?,
-        _ => {}
-    }
+    file.write_all(before_part(begins_line, part))?;
     file.write_all(part)
 }
 

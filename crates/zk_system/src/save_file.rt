@@ -1,6 +1,7 @@
 // The file of a saved game.
 
 ghost use Rattle.std.specs.Prelude.{◌≡◌};
+ghost use Rattle.zk_system.specs.Files.{names_file};
 ghost use Rattle.zk_system.specs.NoFile.{NothingIsKept};
 
 use crate::asking::Asker;
@@ -10,7 +11,6 @@ use crate::reason::tell_reason;
 use crate::shown::Shown;
 use std::alloc::{AllocError, Global};
 use std::{fs, mem};
-use zk_command::arguments::NO_TEXT;
 use zk_save::restore::RestoreError;
 use zk_vm::slot::SaveSlot;
 
@@ -138,13 +138,14 @@ impl<'a> SaveFile<'a> {
     }
 }
 
-/// Whether a text names a file in a folder: it has no slash, and is no name of a folder.
-fn is_name(text: &str) -> bool {
-    !text.is_empty()
-        && text != "."
-        && text != ".."
-        && !text.contains('/')
-        && !text.contains(NO_TEXT)
+/// Whether a text names a file in a folder: it has no slash and no zero byte, which stands for what is no text, and is
+/// no name of a folder.
+fn is_name(text: &str) -> bool
+    ensures { result ≡ names_file text.now }
+{
+    let name = text.as_bytes();
+    let is_folder = name.is_empty() || name == b".".as_slice() || name == b"..".as_slice();
+    !is_folder && !name.iter().any(|byte| *byte == b'/' || *byte == 0)
 }
 
 /// Tells why a saved game is refused.

@@ -5,14 +5,14 @@ use Rattle.std.proofs.Common.{length-append}
 use Rattle.std.proofs.lemmas.Bool.Decides.{nat_tests}
 use Rattle.std.proofs.lemmas.List.Sums.{sum_by-append}
 use Rattle.std.specs.List.{join_with_byte, slice_split}
-use Rattle.zk_term.specs.Wrapping.{is_space, begins_character, columns, fits, fits_after_space, further_words, all_words}
-use Rattle.zk_term.specs.Wrapping.{words_after_space, wrapped, wrapped_line}
+use Rattle.zk_term.specs.Wrapping.{is_space, begins_character, columns, fits, fits_after_space, further_words}
+use Rattle.zk_term.specs.Wrapping.{all_words, words_after_space, wrapped, wrapped_line}
 use Rattle.zk_term.specs.declared.open_line.LineKind.{LineKind}
 use Rattle.zk_term.specs.declared.open_line.LineKind.TheVariants.{Empty, Row, Words, AfterSpace}
 use Rattle.zk_term.specs.Lines.{is_new_line}
 use Rattle.zk_term.specs.OpenLines.{BreaksLine, EndsLine, GoesOn, HasNoSpace, HoldsBy, HoldsOn, IsFullFor, IsHeld}
-use Rattle.zk_term.specs.OpenLines.{IsHeldAfterSpace, IsOpen, rest_after_space, rest_by, rest_of_line, rest_of_text, rest_of_words, Takes, TakesAmongWords}
-use Rattle.zk_term.specs.OpenLines.{TakesInLine, WordsGoOn}
+use Rattle.zk_term.specs.OpenLines.{IsHeldAfterSpace, IsOpen, rest_after_space, rest_by, rest_of_line, rest_of_text}
+use Rattle.zk_term.specs.OpenLines.{rest_of_words, Takes, TakesAmongWords, TakesInLine, WordsGoOn}
 use Rattle.zk_term.specs.declared.open_line.Line.{Line}
 
 -- ---- parts of a list

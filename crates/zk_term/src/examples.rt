@@ -8,8 +8,8 @@ ghost use Rattle.zk_term.specs.guards.Examples.{SplitsAndTheCursor, SelectedWind
 ghost use Rattle.zk_term.specs.guards.Examples.{ClearedWindows, UnsplitWindows, GridsThatAreGone, GridsThatStay};
 ghost use Rattle.zk_term.specs.guards.Examples.{TheTallestIsKept, GridsThatAreForgotten, TextsOfRows};
 ghost use Rattle.zk_term.specs.guards.Examples.{CharactersAreColumns, KindsAfterAFlush, LinesBeginAnew, LinesGoOn};
-ghost use Rattle.zk_term.specs.guards.Examples.{LinesGoOnBehindASpace, LongWordsStandAlone, RowsAreNotWrapped, SpacesInARow};
-ghost use Rattle.zk_term.specs.guards.Examples.{WordsFillALine, WordsOfManyBytes};
+ghost use Rattle.zk_term.specs.guards.Examples.{LinesGoOnBehindASpace, LongWordsStandAlone, RowsAreNotWrapped};
+ghost use Rattle.zk_term.specs.guards.Examples.{SpacesInARow, WordsFillALine, WordsOfManyBytes};
 
 /// The characters of bytes in UTF-8, and bytes that are none.
 pub fn characters_by_example()

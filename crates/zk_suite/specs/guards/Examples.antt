@@ -1,6 +1,7 @@
 -- Worked examples of walkthroughs, by hand.
 use Rattle.std.specs.Prelude.{◌≡◌, ℕ, true, false, List, [], ◌∷◌, ◌++◌, codes, Some, None}
-use Rattle.zk_suite.specs.Scripts.{commands_of, checks_of, numbered_commands, settings_of, setting_in, first_of, recorded, unmarked}
+use Rattle.zk_suite.specs.Scripts.{commands_of, checks_of, numbered_commands, settings_of, setting_in, first_of}
+use Rattle.zk_suite.specs.Scripts.{recorded, unmarked}
 
 abbrev pub walkthrough : List ℕ
 walkthrough =
