@@ -49,8 +49,8 @@ IsHeld true occurs = occurs
 IsHeld false occurs = occurs → ⊥
 
 -- a file is tested whose name ends as those of walkthroughs do, or that was named itself
-abbrev pub is_tested : List ℕ → List (List ℕ) → Bool
-is_tested path named = ends_with ◌==◌ path (codes ".walkthrough") || list_any (λ name. bytes_eq name path) named
+abbrev pub is_walkthrough : List ℕ → List (List ℕ) → Bool
+is_walkthrough path named = ends_with ◌==◌ path (codes ".walkthrough") || list_any (λ name. bytes_eq name path) named
 
 -- What is done about the transcript of a walkthrough whose checks hold, by what its file gave, by whether there are
 -- checks, and by whether one is to be written: one that is there is compared, or written anew; one that is not is

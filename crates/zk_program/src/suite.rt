@@ -3,7 +3,7 @@
 ghost use Rattle.std.specs.Prelude.{◌≡◌, ◌↔◌, IfOk, IsTrue, false, map, nat_lt};
 ghost use Rattle.std.specs.List.{count_by};
 ghost use Rattle.zk_vm.specs.Bounds.{AreInRange};
-ghost use Rattle.zk_program.specs.Plans.{IsHeld, IsJudging, is_tested, status_of_suite};
+ghost use Rattle.zk_program.specs.Plans.{IsHeld, IsJudging, is_walkthrough, status_of_suite};
 ghost use Rattle.zk_suite.specs.Texts.{Occurs};
 
 use crate::about::About;
@@ -494,7 +494,7 @@ fn test_one(rt: &HostRuntime, path: &str, testing: Testing) -> io::Result<bool> 
 
 /// Whether a file is tested that was found by names: other files in a folder are no walkthroughs.
 fn is_tested(path: &str, named: &[&str]) -> bool
-    ensures { result ≡ is_tested path.now (map (λ n. n.now) named.now) }
+    ensures { result ≡ is_walkthrough path.now (map (λ n. n.now) named.now) }
 {
     let path = path.as_bytes();
     path.ends_with(WALKTHROUGH.as_bytes()) || named.iter().any(|name| name.as_bytes() == path)

@@ -28,5 +28,5 @@ names_file name =
     && not (list_any (λ b. (b == 47) || (b == 0)) name)
 
 -- what the paths of a list end with: zero bytes where the list has one, and else new lines
-abbrev pub path_end : List ℕ → ℕ
-path_end list = if list_any (λ b. b == 0) list then 0 else 10
+abbrev pub byte_between : List ℕ → ℕ
+byte_between list = if list_any (λ b. b == 0) list then 0 else 10

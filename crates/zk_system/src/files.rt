@@ -1,7 +1,7 @@
 // Paths: from lists, and of the files in folders.
 
 ghost use Rattle.std.specs.Prelude.{◌≡◌, ◌<◌, ◌^◌, Some, option_map, IfOk, IfSome};
-ghost use Rattle.zk_system.specs.Files.{IsKind, path_end, within};
+ghost use Rattle.zk_system.specs.Files.{IsKind, byte_between, within};
 
 use crate::reason::tell_reason;
 use crate::shown::Shown;
@@ -87,7 +87,7 @@ fn read_list(rt: &HostRuntime, path: &str) -> io::Result<Vec<u8>> {
 
 /// What the paths of a list end with: zero bytes where the list has one, and else new lines.
 fn path_end(list: &[u8]) -> u8
-    ensures { result ≡ path_end list.now }
+    ensures { result ≡ byte_between list.now }
 {
     if list.iter().any(|byte| *byte == 0) {
         0
