@@ -43,9 +43,6 @@ SHORTER = (("zk_fast/src/cache.rt", "SLOTS: usize = 8_192", "SLOTS: usize = 512"
 LONGER = 5
 NO_ANSWER = "no answer"
 
-# What a test asks of the runtime. Outside of tests the runtime has `Abort` in the program's `main` alone.
-TEST_RUNTIME = "impl std::process::Abort + AllocGlobal + Copy"
-
 # What refuses each edit that was tried, by its number, and None where nothing does.
 Outcomes = dict[int, Optional[str]]
 # What is wrong with each edit that is bad, by its number.
@@ -114,28 +111,15 @@ def write_copy(folder: pathlib.Path, edits: list[Edit]) -> None:
         path.parent.mkdir(parents=True)
         shutil.copy(FOLDER / kept, path)
     test.add_tests(folder / "crates")
-    test.shorten(folder / "crates", SHORTER)
+    test.shorten(folder / "crates", (*test.SHORTER, *SHORTER))
     program = folder / "crates/zkit/src/main.rt"
     program.rename(program.with_name("lib.rt"))
     for name in uses:
-        open_up(folder / "crates" / name / "src")
+        test.open_up(folder / "crates" / name / "src")
     player = folder / "crates/player/src"
     player.mkdir(parents=True)
     shutil.copy(FOLDER / "player.rt.in", player / "main.rt")
     (player / "tests.rt").write_text(tests_of(folder, uses, {edit.crate for edit in edits}), encoding="utf-8")
-
-
-def open_up(source: pathlib.Path) -> None:
-    """Makes the tests of a crate, and all modules of the program, callable from the player."""
-    root = source / "lib.rt"
-    text = root.read_text(encoding="utf-8")
-    text = re.sub(r"#\[cfg\(test\)\]\n", "", text)
-    text = re.sub(r"^(?:pub )?mod ", "pub mod ", text, flags=re.M)
-    root.write_text(text, encoding="utf-8")
-    for tests in source.glob("tests*.rt"):
-        text = tests.read_text(encoding="utf-8")
-        text = re.sub(r"#\[test\]\nfn (\w+)\((\w+): HostRuntime\)", rf"pub fn \1(\2: {TEST_RUNTIME})", text)
-        tests.write_text(text, encoding="utf-8")
 
 
 def tests_of(folder: pathlib.Path, crates: Iterable[str], changed: set[str]) -> str:
@@ -145,10 +129,8 @@ def tests_of(folder: pathlib.Path, crates: Iterable[str], changed: set[str]) -> 
     files.sort(key=lambda it: it[0] not in changed and not any(f"use {name}::" in texts[it[1]] for name in changed))
     calls = ""
     for crate, path in files:
-        heads = rf"^pub fn (\w+)\(\w+: {re.escape(TEST_RUNTIME)}\)( -> Result)?"
-        for name, gives in re.findall(heads, texts[path], re.M):
-            calls += f'    eprintln!(rt; "test {crate} {name}")?;\n'
-            calls += f"    {crate}::{path.stem}::{name}(rt){'?' if gives else ''};\n"
+        for name, call in test.called(crate, path):
+            calls += f'    eprintln!(rt; "test {crate} {name}")?;\n    {call};\n'
     return (FOLDER / "player_tests.rt.in").read_text(encoding="utf-8").replace("    // the tests\n", calls)
 
 

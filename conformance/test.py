@@ -7,6 +7,7 @@ They are compiled with checks by `rt try --test`: each that fails is told, and t
 """
 
 import pathlib
+import re
 import shutil
 import sys
 import tempfile
@@ -15,6 +16,8 @@ from collections.abc import Iterable
 from sources import FOLDER, begin_rt, copy_of
 
 SECONDS = 300
+# What a test asks of the runtime. Outside of tests the runtime has `Abort` in a program's `main` alone.
+RUNTIME = "impl std::process::Abort + AllocGlobal + Copy"
 # What is made shorter in a copy: how far a check looks for texts, as the stories of the tests are short.
 SHORTER = (
     ("zk_inspect/src/check/texts.rt", "TEXTS_END: u32 = 524_289", "TEXTS_END: u32 = 66_001"),
@@ -31,7 +34,6 @@ def shorten(crates: pathlib.Path, texts: Iterable[tuple[str, str, str]]) -> None
 
 def add_tests(crates: pathlib.Path) -> None:
     """Adds the tests that are not proved to the tests in a copy of the crates, each file as a module."""
-    shorten(crates, SHORTER)
     source = crates / "zk_tests/src"
     modules = []
     for path in sorted((FOLDER / "tests").glob("*.rt.in")):
@@ -42,12 +44,33 @@ def add_tests(crates: pathlib.Path) -> None:
         root.write("".join(modules))
 
 
+def open_up(source: pathlib.Path) -> None:
+    """Makes the tests of a crate callable from a program, and its modules."""
+    root = source / "lib.rt"
+    text = root.read_text(encoding="utf-8")
+    text = re.sub(r"#\[cfg\(test\)\]\n", "", text)
+    text = re.sub(r"^(?:pub )?mod ", "pub mod ", text, flags=re.M)
+    root.write_text(text, encoding="utf-8")
+    for tests in source.glob("tests*.rt"):
+        text = tests.read_text(encoding="utf-8")
+        text = re.sub(r"#\[test\]\nfn (\w+)\((\w+): HostRuntime\)", rf"pub fn \1(\2: {RUNTIME})", text)
+        tests.write_text(text, encoding="utf-8")
+
+
+def called(crate: str, tests: pathlib.Path) -> list[tuple[str, str]]:
+    """The tests of a file of a crate that is opened up, each by its name and its call."""
+    heads = rf"^pub fn (\w+)\(\w+: {re.escape(RUNTIME)}\)( -> Result)?"
+    found = re.findall(heads, tests.read_text(encoding="utf-8"), re.M)
+    return [(name, f"{crate}::{tests.stem}::{name}(rt){'?' if gives else ''}") for name, gives in found]
+
+
 def main() -> int:
     """Runs the tests in a copy, and answers their status."""
     with tempfile.TemporaryDirectory(prefix="test-") as name:
         folder = pathlib.Path(name)
         copy_of(folder)
         add_tests(folder / "crates")
+        shorten(folder / "crates", SHORTER)
         words = ["try", "--test", "--steps", "1", "--seconds", str(SECONDS)]
         with begin_rt(words, folder / "crates/zk_tests") as ran:
             said, _ = ran.communicate()
