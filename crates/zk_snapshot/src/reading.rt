@@ -206,11 +206,7 @@ fn fill_row(reader: &mut Reader<'_>, windows: &mut Windows, row: u16)
 }
 
 /// Puts the cursor where it stood, which may be past the last row or column.
-#[tactic(auto, using(
-    crate::proofs::Gone::set_gone,
-    crate::proofs::Gone::put_gone,
-    crate::proofs::Gone::row_gone
-))]
+#[tactic(auto, using(crate::proofs::Gone::set_gone, crate::proofs::Gone::put_gone, crate::proofs::Gone::row_gone))]
 fn put_cursor(windows: &mut Windows, row: u16, column: u8)
     ensures { NothingGone windows.old → NothingGone windows.new }
 {

@@ -1,13 +1,13 @@
 -- A machine that is opened of a snapshot is the one that was kept.
-use Rattle.std.proofs.Common.{◌≡◌, ◌∙◌, ℕ, List, length, take, sym, ap, refl, arith}
+use Rattle.std.proofs.Common.{◌≡◌, ◌∙◌, ℕ, List, length, sym, ap, arith}
 use Rattle.std.proofs.lemmas.List.{take_all}
 use Rattle.zk_save.specs.States.{WholeState}
 use Rattle.zk_step.specs.declared.state.game_state.GameState.{GameState}
 use Rattle.zk_vm.specs.Sessions.{Session}
 use Rattle.zk_term.specs.Windows.{Windows}
-use Rattle.zk_snapshot.specs.Laws.{FitsNewest, IsKept, IsOfOnePlay, OpensAgain, newest, with_kept, without_gone}
+use Rattle.zk_snapshot.specs.Laws.{FitsNewest, IsKept, OpensAgain, newest, with_kept, without_gone}
 use Rattle.zk_snapshot.specs.Opening.{IsOpened}
-use Rattle.zk_snapshot.specs.Snapshots.{fitting, snapshot_of, snapshot_with}
+use Rattle.zk_snapshot.specs.Snapshots.{snapshot_of, snapshot_with}
 use Rattle.zk_snapshot.proofs.Gone.{gone_is_forgotten}
 use Rattle.zk_snapshot.proofs.guards.Unique.{one_play}
 
