@@ -3,9 +3,8 @@ use Rattle.std.specs.Prelude.{◌≡◌, ◌≢◌, ◌⊎◌, ℕ, ◌-◌, ◌
 use Rattle.std.specs.Prelude.{None}
 use Rattle.std.specs.Prelude.{Result, Ok, Err, nat_le, nat_lt, if◌then◌else◌, max}
 use Rattle.std.specs.IoError.{error_kind}
-use Rattle.std.specs.List.{ends_with, list_any}
-use Rattle.std.specs.Str.{bytes_eq}
-use Rattle.std.specs.Vec.{Vec}
+use Rattle.std.specs.List.{ends_with}
+use Rattle.std.specs.Global.{Vec}
 use Rattle.std.specs.declared.io.Error.{Error}
 use Rattle.std.specs.declared.io.ErrorKind.TheVariants as kind
 use Rattle.zk_command.specs.declared.settings.Amount.{Amount}
@@ -13,8 +12,8 @@ use Rattle.zk_command.specs.declared.settings.Amount.TheVariants.{Number, Found}
 use Rattle.zk_step.specs.declared.state.ending.Event.{Event}
 use Rattle.zk_step.specs.declared.state.ending.Event.TheVariants.{Char}
 use Rattle.zk_program.specs.declared.listed.Listed.{Listed}
-use Rattle.zk_program.specs.declared.suite.Judging.{Judging}
-use Rattle.zk_program.specs.declared.suite.Judging.TheVariants.{Compare, Write, Pass, Missing, Unread}
+use Rattle.zk_program.specs.declared.suite.TranscriptPlan.{TranscriptPlan}
+use Rattle.zk_program.specs.declared.suite.TranscriptPlan.TheVariants.{Compare, Write, Pass, Missing, Unread}
 
 -- after how many lines a play waits, by its option and by the lines of a terminal that shows what is typed: never
 -- without an option, or where there is no such terminal; a line is left for what asks
@@ -48,15 +47,15 @@ abbrev pub IsHeld : Bool → Type 0 → Type 0
 IsHeld true occurs = occurs
 IsHeld false occurs = occurs → ⊥
 
--- a file is tested whose name ends as those of walkthroughs do, or that was named itself
-abbrev pub is_walkthrough : List ℕ → List (List ℕ) → Bool
-is_walkthrough path named = ends_with ◌==◌ path (codes ".walkthrough") || list_any (λ name. bytes_eq name path) named
+-- a path ends as those of walkthroughs do
+abbrev pub is_walkthrough : List ℕ → Bool
+is_walkthrough path = ends_with ◌==◌ path (codes ".walkthrough")
 
 -- What is done about the transcript of a walkthrough whose checks hold, by what its file gave, by whether there are
 -- checks, and by whether one is to be written: one that is there is compared, or written anew; one that is not is
 -- written where that is asked for and no check stands in its place.
-abbrev pub IsJudging : Result (Vec ℕ) Error → Bool → Bool → Judging → Type 0
-IsJudging (Ok text) checks bless plan = plan ≡ (if bless then Write else Compare)
-IsJudging (Err error) checks bless plan =
+abbrev pub IsPlanFor : Result (Vec ℕ) Error → Bool → Bool → TranscriptPlan → Type 0
+IsPlanFor (Ok text) checks bless plan = plan ≡ (if bless then Write else Compare)
+IsPlanFor (Err error) checks bless plan =
     ((error_kind error ≢ kind.NotFound) × (plan ≡ Unread))
     ⊎ ((error_kind error ≡ kind.NotFound) × (plan ≡ (if checks then Pass else if bless then Write else Missing)))

@@ -37,9 +37,8 @@ fn list_in<'a>(
     path: &'a str,
     bytes: &[u8],
 ) -> Result<Option<Covered<'a>>, AllocError>
-    ensures { IfOk result (λ o. MatchOption o
-        (λ c. HasCoverage bytes.now c.story.bytes.items c.addresses.items)
-        (HasNoCoverage bytes.now)) }
+    ensures { IfOk result (λ o. MatchOption o (HasNoCoverage bytes.now)
+        (λ c. HasCoverage bytes.now c.story.bytes.items c.addresses.items)) }
 {
     let Ok(text) = str::from_utf8(bytes) else {
         return Ok(None);

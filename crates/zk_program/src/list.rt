@@ -11,7 +11,7 @@ use crate::play::screen_of;
 use crate::readable::{ListRequest, list_counts, list_readable};
 use crate::report::report_listing;
 use crate::roots::{CodeRoots, code_roots};
-use crate::told::out_of_memory;
+use crate::told::{out_of_memory, tell_last_line};
 use std::fs::File;
 use zk_command::settings::{Asked, Form, Roots, ShowOptions};
 use zk_notes::counts::Counts;
@@ -19,6 +19,7 @@ use zk_system::files::files_of;
 use zk_system::shown::Shown;
 use zk_system::terminal::{columns, is_told_at};
 use zk_term::io_device::IoDevice;
+use zk_vm::stop::Stop;
 
 /// Lists the story in a file, below its heading where it is one of several.
 fn list<'a>(
@@ -85,6 +86,16 @@ struct Several<'a> {
     told: bool,
 }
 
+/// Tells at a terminal which of the stories comes next, where words that follow stand over it; before the last one it is
+/// taken away.
+fn tell_count(rt: &HostRuntime, number: usize, count: usize) {
+    let _ = if number < count {
+        eprint!(rt; "{number} of {count}\r")
+    } else {
+        eprint!(rt; "{:24}\r", "")
+    };
+}
+
 /// Lists the stories in files one after another, as long as the screen takes them, and answers the greatest status.
 fn list_in_turn(
     rt: &HostRuntime,
@@ -94,16 +105,13 @@ fn list_in_turn(
 ) -> Listed {
     let mut all = Listed::nothing(0);
     for (number, path) in several.stories.iter().enumerate() {
-        all = all.and(list_one_of_several(rt, path, request, counts, several.summary));
         if several.told {
-            let _ = eprint!(rt; "\r{} of {}", number + 1, several.stories.len());
+            tell_count(rt, number + 1, several.stories.len());
         }
+        all = all.and(list_one_of_several(rt, path, request, counts, several.summary));
         if all.ends {
             break;
         }
-    }
-    if several.told {
-        let _ = eprintln!(rt;);
     }
     all
 }
@@ -145,11 +153,10 @@ fn list_folders(
         ..paths
     };
     let listed = list_each(rt, several, request, counts);
-    if files.all {
-        listed
-    } else {
-        listed.and(Listed::nothing(4))
+    if files.all || listed.ends {
+        return listed;
     }
+    listed.and(Listed::nothing(tell_last_line(rt, &Exit::Stopped(Stop::Read))))
 }
 
 /// Lists the stories that paths name, and counts their findings. Those of a list and in folders are counted at a

@@ -11,14 +11,13 @@ use crate::exit::Exit;
 use crate::listing::open_listed;
 use crate::opening::read_story;
 use crate::playing::{Devices, PlayRequest, play_and_report};
-use crate::told::{out_of_memory, tell_exit, tell_last_line};
+use crate::told::{out_of_memory, tell_exit, tell_unmade};
 use std::fs::{self, File};
-use std::io::{self, Read};
+use std::io::{self, Read, Write};
 use zk_command::settings::{Amount, PlayOptions, Settings};
 use zk_fast::places::{Places, Unnoted};
 use zk_system::asking::{Asker, StandardOutput, TypedInput};
 use zk_system::paged::Paged;
-use zk_system::reason::tell_reason;
 use zk_system::record::{Record, RecordFile, write_record_heading};
 use zk_system::save_file::{SaveFile, SavePlace, tell_no_folder};
 use zk_system::script::ScriptFile;
@@ -28,9 +27,7 @@ use zk_system::typed_bytes::TypedBytes;
 use zk_system::watched::Watched;
 use zk_term::echo::Echo;
 use zk_term::io_device::IoDevice;
-use zk_term::target::Failed;
 use zk_term::wrapped::Wrapped;
-use zk_vm::stop::Stop;
 
 /// Standard output.
 pub fn screen_of<'a>(rt: &'a HostRuntime, about: &'a About) -> StandardOutput<'a>
@@ -151,13 +148,14 @@ fn begin_record(
     settings: &Settings,
     width: Option<u8>,
 ) -> io::Result<File> {
-    let file = File::create(rt, path)?;
+    let mut file = File::create(rt, path)?;
     let beside = path_beside(rt, path, story)?;
     let shown = format!(in rt.alloc(); "{}", Shown(beside.as_str()))?;
-    let mut target = IoDevice::new(&file);
-    if write_record_heading(&mut target, shown.as_str(), settings, width).is_err() {
-        return Err(io::ErrorKind::WriteZero.into());
+    let mut heading = IoDevice::new(Vec::new(rt.alloc()));
+    if write_record_heading(&mut heading, shown.as_str(), settings, width).is_err() {
+        return Err(io::ErrorKind::OutOfMemory.into());
     }
+    file.write_all(heading.into_inner().as_slice())?;
     Ok(file)
 }
 
@@ -170,23 +168,21 @@ fn place_of<'a>(options: &PlayOptions<'a>) -> Option<SavePlace<'a>> {
     }
 }
 
-/// Makes the file of a record where options name one. Where it can't be made the reason is told.
+/// Makes the file of a record where options name one; or answers the program's status, where it is told why it can't be
+/// made.
 fn record_of(
     rt: &HostRuntime,
     story: &str,
     options: &PlayOptions,
     settings: &Settings,
     width: Option<u8>,
-) -> Result<Option<File>, Failed> {
+) -> Result<Option<File>, u8> {
     let Some(path) = options.recorded else {
         return Ok(None);
     };
     match begin_record(rt, path, story, settings, width) {
         Ok(file) => Ok(Some(file)),
-        Err(error) => {
-            tell_reason(rt, path, &error);
-            Err(Failed)
-        }
+        Err(error) => Err(tell_unmade(rt, path, &error)),
     }
 }
 
@@ -262,9 +258,7 @@ impl<'a> OpenPlay<'a> {
         if let Some(folder) = options.saves {
             tell_no_folder(rt, folder);
         }
-        let Ok(record) = record_of(rt, path, &options, &settings, width) else {
-            return Err(tell_last_line(rt, &Exit::Stopped(Stop::Write)));
-        };
+        let record = record_of(rt, path, &options, &settings, width)?;
         let opened = OpenPlay {
             story,
             about,

@@ -16,6 +16,7 @@ pub struct Session {
     text: Cell<Vec<u8>>,
     length: Cell<usize>,
     asked: Cell<Vec<usize>>,
+    lacks_memory: Cell<bool>,
 }
 
 impl Session {
@@ -25,7 +26,22 @@ impl Session {
             text: Cell::new(Vec::new(alloc)),
             length: Cell::new(0),
             asked: Cell::new(Vec::new(alloc)),
+            lacks_memory: Cell::new(false),
         }
+    }
+
+    /// Whether something could not be kept, since there was no memory for it.
+    pub fn lacks_memory(&self) -> bool {
+        self.lacks_memory.get()
+    }
+
+    /// Notes that there was no memory where something could not be added.
+    fn note(&self, is_added: bool) -> Result<(), AllocError> {
+        if is_added {
+            return Ok(());
+        }
+        self.lacks_memory.set(true);
+        Err(AllocError)
     }
 
     /// Adds to what was shown.
@@ -34,7 +50,7 @@ impl Session {
         let added = text.extend_from_slice(bytes);
         self.length.set(text.len());
         self.text.set(text);
-        Ok(added?)
+        self.note(added.is_ok())
     }
 
     /// Notes that a command is asked for.
@@ -42,7 +58,7 @@ impl Session {
         let mut asked = self.asked.replace(Vec::new(self.alloc));
         let added = asked.push(self.length.get());
         self.asked.set(asked);
-        Ok(added?)
+        self.note(added.is_ok())
     }
 
     /// All that was shown, and how many bytes of it there were as each command was asked for.

@@ -1,15 +1,16 @@
 // Playing walkthroughs, and comparing what they show with their transcripts.
 
-ghost use Rattle.std.specs.Prelude.{◌≡◌, ◌↔◌, IfOk, IsTrue, false, map, nat_lt};
-ghost use Rattle.std.specs.List.{count_by};
+ghost use Rattle.std.specs.Prelude.{◌≡◌, ◌↔◌, ◌||◌, IfOk, IsTrue, false, nat_lt};
+ghost use Rattle.std.specs.List.{count_by, list_any};
+ghost use Rattle.std.specs.Str.{bytes_eq};
 ghost use Rattle.zk_vm.specs.Bounds.{AreInRange};
-ghost use Rattle.zk_program.specs.Plans.{IsHeld, IsJudging, is_walkthrough, status_of_suite};
+ghost use Rattle.zk_program.specs.Plans.{IsHeld, IsPlanFor, is_walkthrough, status_of_suite};
 ghost use Rattle.zk_suite.specs.Texts.{Occurs};
 
 use crate::about::About;
 use crate::playing::{Devices, PlayRequest, play_and_report};
 use crate::session::{Commands, MemorySlot, Session, SessionScreen};
-use crate::told::tell_unwritten;
+use crate::told::{out_of_memory, tell_unwritten};
 use std::fs::File;
 use std::io::{self, ErrorKind, Write};
 use zk_command::manner::Manner;
@@ -56,6 +57,8 @@ struct Played {
     text: Vec<u8>,
     /// How much of the text there was as each command was asked for.
     asked: Vec<usize>,
+    /// Whether there was no memory for what it showed.
+    lacks_memory: bool,
     status: u8,
     /// What was told of the ending.
     errors: Vec<u8>,
@@ -110,10 +113,12 @@ fn play_commands(rt: &HostRuntime, story: OpenStory, manner: Manner, commands: &
     let session = Session::new(rt.alloc());
     let mut errors = IoDevice::new(Vec::new(rt.alloc()));
     let status = play_in(rt, story, manner, commands, &session, &mut errors);
+    let lacks_memory = session.lacks_memory();
     let (text, asked) = session.into_parts();
     Played {
         text,
         asked,
+        lacks_memory,
         status,
         errors: errors.into_inner(),
     }
@@ -309,7 +314,7 @@ fn write_transcript(
 
 /// What is done about the transcript of a walkthrough whose checks hold.
 #[derive(Clone, Copy, Drop)]
-enum Judging {
+enum TranscriptPlan {
     Compare,
     Write,
     /// Nothing: its checks are enough.
@@ -321,16 +326,16 @@ enum Judging {
 }
 
 /// What is done about a transcript, by what its file gave, and by whether there are checks and one is to be written.
-fn judging(found: &io::Result<Vec<u8>>, has_checks: bool, bless: bool) -> Judging
-    ensures { IsJudging found.now has_checks bless result }
+fn plan_for(found: &io::Result<Vec<u8>>, has_checks: bool, bless: bool) -> TranscriptPlan
+    ensures { IsPlanFor found.now has_checks bless result }
 {
     match found {
-        Ok(_) if bless => Judging::Write,
-        Ok(_) => Judging::Compare,
-        Err(error) if error.kind() != ErrorKind::NotFound => Judging::Unread,
-        Err(_) if has_checks => Judging::Pass,
-        Err(_) if bless => Judging::Write,
-        Err(_) => Judging::Missing,
+        Ok(_) if bless => TranscriptPlan::Write,
+        Ok(_) => TranscriptPlan::Compare,
+        Err(error) if error.kind() != ErrorKind::NotFound => TranscriptPlan::Unread,
+        Err(_) if has_checks => TranscriptPlan::Pass,
+        Err(_) if bless => TranscriptPlan::Write,
+        Err(_) => TranscriptPlan::Missing,
     }
 }
 
@@ -347,14 +352,14 @@ fn judge(
     let transcript = transcript_path(rt, path)?;
     let wanted = read_whole(rt, transcript.as_str(), MOST_TEXT);
     let shown = played.text.as_slice();
-    match (judging(&wanted, has_checks, bless), wanted) {
-        (Judging::Compare, Ok(wanted)) => {
+    match (plan_for(&wanted, has_checks, bless), wanted) {
+        (TranscriptPlan::Compare, Ok(wanted)) => {
             compare(rt, path, walkthrough, wanted.as_slice(), played)
         }
-        (Judging::Write, _) => write_transcript(rt, path, transcript.as_str(), shown),
-        (Judging::Unread, Err(error)) => fail_by(rt, path, transcript.as_str(), &error),
-        (Judging::Missing, _) => fail(rt, path, "it has no transcript; --bless writes one"),
-        (Judging::Pass | Judging::Compare | Judging::Unread, _) => Ok(true),
+        (TranscriptPlan::Write, _) => write_transcript(rt, path, transcript.as_str(), shown),
+        (TranscriptPlan::Unread, Err(error)) => fail_by(rt, path, transcript.as_str(), &error),
+        (TranscriptPlan::Missing, _) => fail(rt, path, "it has no transcript; --bless writes one"),
+        (TranscriptPlan::Pass | TranscriptPlan::Compare | TranscriptPlan::Unread, _) => Ok(true),
     }
 }
 
@@ -367,6 +372,9 @@ fn judge_played(
     played: &Played,
     bless: bool,
 ) -> io::Result<bool> {
+    if played.lacks_memory {
+        return Err(ErrorKind::OutOfMemory.into());
+    }
     if played.status != 0 {
         let reason = format!(in rt.alloc(); "the play ended with status {}", played.status)?;
         fail_at(rt, path, walkthrough, played.asked.len(), reason.as_str())?;
@@ -494,10 +502,10 @@ fn test_one(rt: &HostRuntime, path: &str, testing: Testing) -> io::Result<bool> 
 
 /// Whether a file is tested that was found by names: other files in a folder are no walkthroughs.
 fn is_tested(path: &str, named: &[&str]) -> bool
-    ensures { result ≡ is_walkthrough path.now (map (λ n. n.now) named.now) }
+    ensures { result ≡ (is_walkthrough path.now
+        || list_any (λ name. bytes_eq name.now path.now) named.now) }
 {
-    let path = path.as_bytes();
-    path.ends_with(WALKTHROUGH.as_bytes()) || named.iter().any(|name| name.as_bytes() == path)
+    path.as_bytes().ends_with(WALKTHROUGH.as_bytes()) || named.contains(&path)
 }
 
 /// Tests walkthroughs, one after another, says of each how it went, and tells how many have passed and failed.
@@ -544,10 +552,12 @@ fn test_paths(rt: &HostRuntime, paths: &[&str], testing: Testing) -> io::Result<
     Ok(suite_status(passed, failed, files.all))
 }
 
-/// Tests walkthroughs, and answers the program's status: 4 where what is said can't be written.
+/// Tests walkthroughs, and answers the program's status: 4 where what is said can't be written, and 5 where there is no
+/// memory.
 pub fn test(rt: &HostRuntime, paths: &[&str], testing: Testing) -> u8 {
     match test_paths(rt, paths, testing) {
         Ok(status) => status,
+        Err(error) if error.kind() == ErrorKind::OutOfMemory => out_of_memory(rt),
         Err(error) => tell_unwritten(rt, &error),
     }
 }

@@ -36,6 +36,17 @@ pub fn tell_unread(rt: &HostRuntime, path: &str, error: io::Error) -> u8
     tell_last_line(rt, &Exit::Unread(error))
 }
 
+/// Tells why a file can't be made or written, and answers the program's status.
+pub fn tell_unmade(rt: &HostRuntime, path: &str, error: &io::Error) -> u8
+    ensures { result ≡ unread_status (error_kind error.now) }
+{
+    if error.kind() == ErrorKind::OutOfMemory {
+        return out_of_memory(rt);
+    }
+    tell_reason(rt, path, error);
+    tell_last_line(rt, &Exit::Stopped(Stop::Write))
+}
+
 /// Tells why what is said can't be written to the screen, and answers the program's status.
 pub fn tell_unwritten(rt: &HostRuntime, failure: &io::Error) -> u8
     ensures { result ≡ 4 }

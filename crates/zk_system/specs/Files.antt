@@ -1,5 +1,5 @@
 -- What stands at a path, and what is read of it.
-use Rattle.std.specs.Prelude.{ℕ, ◌==◌, ◌&&◌, ◌||◌, Bool, not, List, [], codes, length, nat_le, Option, Some, None}
+use Rattle.std.specs.Prelude.{ℕ, ◌==◌, ◌&&◌, ◌||◌, Bool, not, List, codes, length, nat_le, Option, Some, None}
 use Rattle.std.specs.Prelude.{Result, Ok, Err, if◌then◌else◌}
 use Rattle.std.specs.List.{list_any}
 use Rattle.std.specs.Str.{bytes_eq}
@@ -21,11 +21,14 @@ IsKind found kind = ⊥
 abbrev pub within : ℕ → List ℕ → Option (List ℕ)
 within most file = if nat_le (length file) most then Some file else None
 
+-- a name is that of a folder, or none
+abbrev pub is_folder_name : List ℕ → Bool
+is_folder_name name = (length name == 0) || (bytes_eq name (codes ".") || bytes_eq name (codes ".."))
+
 -- a text names a file in a folder: it has no slash (47) and no zero byte, and is no name of a folder
 abbrev pub names_file : List ℕ → Bool
 names_file name =
-    not (bytes_eq name [] || (bytes_eq name (codes ".") || bytes_eq name (codes "..")))
-    && not (list_any (λ b. (b == 47) || (b == 0)) name)
+    not (is_folder_name name) && (not (list_any (λ b. b == 47) name) && not (list_any (λ b. b == 0) name))
 
 -- what the paths of a list end with: zero bytes where the list has one, and else new lines
 abbrev pub byte_between : List ℕ → ℕ

@@ -89,11 +89,7 @@ fn read_list(rt: &HostRuntime, path: &str) -> io::Result<Vec<u8>> {
 fn path_end(list: &[u8]) -> u8
     ensures { result ≡ byte_between list.now }
 {
-    if list.iter().any(|byte| *byte == 0) {
-        0
-    } else {
-        b'\n'
-    }
+    if list.contains(&0) { 0 } else { b'\n' }
 }
 
 /// The paths in a list. Nothing between two of their ends is no path.
@@ -193,14 +189,15 @@ fn is_followed(rt: &HostRuntime, path: &str, named: &str) -> bool {
     path == named || kind_of(&fs::symlink_metadata(rt, path)) == Kind::Folder
 }
 
-/// Puts what a folder has on a pile, and tells why it can't be read where that is so. Whether all of it could be.
-fn open_up(rt: &HostRuntime, folder: &str, pile: &mut Vec<String>) -> bool {
+/// Puts what a folder has on a pile, and tells why it can't be read where that is so. Whether all of it could be; an
+/// error is lack of memory.
+fn open_up(rt: &HostRuntime, folder: &str, pile: &mut Vec<String>) -> io::Result<bool> {
     match pile_up(rt, folder, pile) {
-        Ok(all) => all,
-        Err(error) => {
+        Err(error) if error.kind() != ErrorKind::OutOfMemory => {
             tell_reason(rt, folder, &error);
-            false
+            Ok(false)
         }
+        all => all,
     }
 }
 
@@ -221,7 +218,7 @@ fn add_files(rt: &HostRuntime, folder: &str, files: &mut Vec<String>) -> io::Res
         };
         match kind_of(&fs::metadata(rt, path.as_str())) {
             Kind::Folder if !is_followed(rt, path.as_str(), folder) => {}
-            Kind::Folder => all = open_up(rt, path.as_str(), &mut pile) && all,
+            Kind::Folder => all = open_up(rt, path.as_str(), &mut pile)? && all,
             Kind::Other => tell_passed_over(rt, path.as_str()),
             Kind::File | Kind::Unknown => files.push(path)?,
         }

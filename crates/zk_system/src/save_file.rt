@@ -1,7 +1,7 @@
 // The file of a saved game.
 
 ghost use Rattle.std.specs.Prelude.{◌≡◌};
-ghost use Rattle.zk_system.specs.Files.{names_file};
+ghost use Rattle.zk_system.specs.Files.{is_folder_name, names_file};
 ghost use Rattle.zk_system.specs.NoFile.{NothingIsKept};
 
 use crate::asking::Asker;
@@ -86,7 +86,10 @@ impl<'a> SaveFile<'a> {
     fn ask_path(&mut self, folder: &str, doing: &str) -> Option<String>
         ensures { self.new.place ≡ self.old.place }
     {
-        let name = self.asker.ask_name(doing, self.offered.as_str())?;
+        let Some(name) = self.asker.ask_name(doing, self.offered.as_str()) else {
+            let _ = eprintln!(self.rt; "zkit: no file was named");
+            return None;
+        };
         if !is_name(name.as_str()) {
             let _ = eprintln!(self.rt;
                 "zkit: {}: a file name without / is needed",
@@ -138,14 +141,20 @@ impl<'a> SaveFile<'a> {
     }
 }
 
+/// Whether a name is that of a folder, or none.
+fn names_folder(name: &[u8]) -> bool
+    ensures { result ≡ is_folder_name name.now }
+{
+    name.is_empty() || name == b".".as_slice() || name == b"..".as_slice()
+}
+
 /// Whether a text names a file in a folder: it has no slash and no zero byte, which stands for what is no text, and is
 /// no name of a folder.
 fn is_name(text: &str) -> bool
     ensures { result ≡ names_file text.now }
 {
     let name = text.as_bytes();
-    let is_folder = name.is_empty() || name == b".".as_slice() || name == b"..".as_slice();
-    !is_folder && !name.iter().any(|byte| *byte == b'/' || *byte == 0)
+    !names_folder(name) && !name.contains(&b'/') && !name.contains(&0)
 }
 
 /// Tells why a saved game is refused.
