@@ -320,11 +320,13 @@ class Written(Program):
     def check_runs(self, runs: list[Run]) -> None:
         """Does the runs of a case. No file is left but those that it names, and these hold what was said last."""
         held: dict[str, object] = {}
+        links: set[str] = set()
         for run in runs:
             for name in run.folders:
                 (self.folder / name).mkdir(parents=True)
             for name, target in run.links.items():
                 (self.folder / name).symlink_to(target)
+                links.add(name)
             for words, device in [(it, to) for it in run.words for to in run.output or run.error_output or [""]]:
                 place = f"{run.place} {words}" + f" to {device}" * bool(device)
                 self.write(run.before)
@@ -334,7 +336,7 @@ class Written(Program):
                 for name, content in held.items():
                     there = self.read(name)
                     same(content, there if there is None else text_of(there), f"{place}: {name}")
-                same([], [it for it in self.left() if it not in {**held, **run.links}], f"{place}: left")
+                same([], [it for it in self.left() if it not in {*held, *links}], f"{place}: left")
 
     def come_of(self, run: Run, words: str, device: str) -> Ended:
         """Does a run, where a device fails if one is named, and some files have not the rights that they have else."""
