@@ -65,11 +65,13 @@ class Sessions(Asked):
     # ---- an evening
 
     def seeds_of_the_clock(self) -> None:
-        """`--seed any` tells the seed, and that seed gives the same play."""
-        status, text, told = self.run("play --seed any throws.z5", b"x\n")
+        """`--seed any` tells the seed, that seed gives the same play, and a record has it."""
+        status, text, told = self.run("play --seed any --record made throws.z5", b"x\n")
         found = re.fullmatch(r"zkit: using --seed (\d+)\n", told)
         same((0, True), (status, bool(found)), told)
-        self.check(shown(text), f"play --seed {found and found[1]} throws.z5", b"x\n")
+        seed = found and found[1]
+        self.check(shown(text), f"play --seed {seed} throws.z5", b"x\n")
+        same(f"# seed: {seed}", text_of(self.read("made")).splitlines()[1])
 
     def records_in_folders(self) -> None:
         """A record in a folder names the story from there."""
