@@ -55,8 +55,10 @@ class Asked(Written):
         return came.replace("\r\n", "\n")
 
     def facts_of(self, words: str, typed: bytes = b"") -> Any:
-        """The facts of a story in JSON."""
-        return json.loads(self.run(words, typed)[1])
+        """The facts of a story in JSON, of which nothing else is told."""
+        _, facts, told = self.run(words, typed)
+        same("", told, words)
+        return json.loads(facts)
 
 
 class Sessions(Asked):
@@ -83,9 +85,9 @@ class Sessions(Asked):
             ("./it", whole),
             (str(self.folder / "made/whole"), whole),
         ):
-            self.run(["play", "--record", record, "echoes.z3"], b"abc\n! a\n")
+            self.check(shown("a!"), ["play", "--record", record, "echoes.z3"], b"abc\n! a\n")
             same([f"# story: {story_path}"], text_of(self.read(record)).splitlines()[:1], record)
-            self.check((0, ANY, ANY), ["test", "--bless", record])
+            self.check((0, ANY, ""), ["test", "--bless", record])
 
     def pages_wait_at_a_terminal(self) -> None:
         """After each page Enter is waited for, and a read begins a page anew."""
@@ -165,6 +167,8 @@ class Sessions(Asked):
         status, lines, told = self.run("info --ifid --json --header --dictionary hello.z3 missing empty")
         hello, missing, empty = [json.loads(line) for line in lines.splitlines()]
         same((4, "ZCODE-0-000000", {}), (status, hello["ifid"], hello["dictionary"]), told)
+        words = "zkit: missing: there is no such file or folder\nzkit: read failed\n"
+        same(words + "zkit: empty: not a story: the file is shorter than a header\nzkit: refused 1\n", told)
         same({"form": 1, "path": "missing", "unread": "read failed"}, missing)
         same({"form": 1, "path": "empty", "refused": 1, "why": "too short"}, empty)
         strings = self.facts_of("info --strings --json whole.z3")["strings"]
@@ -183,7 +187,7 @@ class Sessions(Asked):
     def texts_are_told_as_they_are(self) -> None:
         """A circumflex and a tilde of a name are themselves in rows, in JSON and in a graph."""
         same("^~", self.facts_of("info --objects --json marks.z3")["objects"][0]["name"])
-        self.check((ANY, begins("marks.z3\tobject\t1\t^~\t0\t0\t0\t-\t-\n"), ANY), "info --objects --rows marks.z3")
+        self.check(shown(begins("marks.z3\tobject\t1\t^~\t0\t0\t0\t-\t-\n")), "info --objects --rows marks.z3")
         same('  o1 [label="1 ^~"];', self.run("info --graph marks.z3")[1].splitlines()[2])
         same('1 "^~"', self.run("info --tree marks.z3")[1].splitlines()[1])
 
@@ -192,10 +196,10 @@ class Sessions(Asked):
         lighthouse, links = FILES["lighthouse.z5"], FILES["links.z3"]
         same([FOUND], self.facts_of("check --json /dev/stdin", links)["findings"][1:])
         meaning = "the parent, the sibling or the child of this object has a number past the last object"
-        _, noted, _ = self.run("check --notes /dev/stdin", links)
-        same([f"C5 000c7 object links  ; object 2: {meaning}"], noted.splitlines()[1:])
+        status, noted, told = self.run("check --notes /dev/stdin", links)
+        same((6, [f"C5 000c7 object links  ; object 2: {meaning}"], ""), (status, noted.splitlines()[1:], told))
         self.check(self.run("info --notes lighthouse.z5"), "info --notes /dev/stdin", lighthouse)
-        self.check((ANY, has("compiler Inform"), ANY), "info --notes /dev/stdin", lighthouse)
+        self.check(shown(has("compiler Inform")), "info --notes /dev/stdin", lighthouse)
 
     def files_are_counted_at_a_terminal(self) -> None:
         """A terminal shows how many files were looked at."""
