@@ -18,6 +18,7 @@ from dataclasses import dataclass, field, replace
 from pathlib import Path
 
 from cases import ANY, DEVICES, EXAMPLES, SOME, Ended, Program, Wanted, begins, has, same, text_of
+from ending import end_with
 from run import BadRow, unquote
 
 CODE = 0x40
@@ -371,4 +372,4 @@ def main() -> int:
 
 
 if __name__ == "__main__":
-    sys.exit(main())
+    end_with(main)

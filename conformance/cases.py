@@ -37,6 +37,10 @@ class Differs(Exception):
     """What came is not what was wanted."""
 
 
+class LeftOut(Exception):
+    """A case can't be tried here; the words say why."""
+
+
 class Where:
     """What is equal to each thing that a condition holds for."""
 
@@ -206,7 +210,9 @@ class Program:
         """Runs a case, tells what differs, and takes away what it leaves in the folder."""
         try:
             check(*words)
-        except (Differs, OSError, ValueError, LookupError, subprocess.SubprocessError) as difference:
+        except LeftOut as why:
+            self.left_out(str(why), repr(name))
+        except Exception as difference:
             self.differ += 1
             print(f"differs: {name!r}: {difference if isinstance(difference, Differs) else repr(difference)}")
         else:

@@ -24,6 +24,7 @@ from typing import NamedTuple
 
 from case_files import Book, Run, word_bytes, words_of
 from cases import SECONDS, Program, compiler, preloaded, takes_preloaded, text_of
+from ending import end_with, workers
 
 # Of a run with more allocations than this some are left out.
 MOST = 1_000
@@ -187,7 +188,7 @@ def main() -> None:
     with tempfile.TemporaryDirectory() as place:
         library = preloaded("refused_memory.c", pathlib.Path(place))
         counts: Counter[str] = Counter()
-        with concurrent.futures.ThreadPoolExecutor(os.cpu_count()) as pool:
+        with workers(os.cpu_count() or 1) as pool:
             for plan in [Plan(it, words) for _, runs in BOOK.cases for it in runs for words in it.words]:
                 check_plan(pool, functools.partial(run, command, library), plan, counts, verbose)
     if counts["left_out"]:
@@ -198,4 +199,4 @@ def main() -> None:
 
 
 if __name__ == "__main__":
-    main()
+    end_with(main)

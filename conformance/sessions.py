@@ -16,13 +16,13 @@ import re
 import resource
 import shlex
 import signal
-import sys
 from collections.abc import Iterable
 from pathlib import Path
 from typing import Any
 
 from case_files import Book, Written
-from cases import ANY, begins, has, run_cases, same, shown, shown_up_to, text_of
+from cases import ANY, LeftOut, begins, has, run_cases, same, shown, shown_up_to, text_of
+from ending import end_with
 
 BOOK = Book(Path(__file__).with_name("sessions.cases"))
 FILES = BOOK.files
@@ -41,7 +41,10 @@ class Asked(Written):
     def at_terminal(self, words: str, turns: Iterable[tuple[str, str]] = (), **variables: str) -> str:
         """All that is shown at a terminal, by words of a shell, where a line is typed after each of some texts."""
         line = f"{shlex.join(self.command)} {words}"
-        pid, terminal = pty.fork()
+        try:
+            pid, terminal = pty.fork()
+        except OSError as error:
+            raise LeftOut("there is no terminal to be had") from error
         if pid == 0:
             os.chdir(self.folder)
             os.execve("/bin/sh", ["sh", "-c", line], {**os.environ, **variables})
@@ -148,8 +151,11 @@ class Sessions(Asked):
         told = "zkit: some/pipe: no regular file, and left out\n"
         self.check((0, ifids, told), "info --ifid --recursive some")
         for name in (b"\xff.z3", b"\xfe.z3"):
-            with open(os.fsencode(self.folder / "some/b") + b"/" + name, "wb"):
-                pass
+            try:
+                with open(os.fsencode(self.folder / "some/b") + b"/" + name, "wb"):
+                    pass
+            except OSError as error:
+                raise LeftOut("the folders here have no names but texts") from error
         told = "zkit: some/b: 2 names in it are no text (UTF-8), and left out\n" + told
         self.check((4, ifids, told), "info --ifid --recursive some")
         os.unlink(os.fsencode(self.folder / "some/b") + b"/\xff.z3")
@@ -223,4 +229,4 @@ class Sessions(Asked):
 
 
 if __name__ == "__main__":
-    sys.exit(run_cases("sessions", __doc__, Sessions, FILES))
+    end_with(lambda: run_cases("sessions", __doc__, Sessions, FILES))
