@@ -113,8 +113,10 @@ def is_unread(plan: Plan, came: Came) -> bool:
 
 
 def parts_of(shown: str, names: Sequence[str]) -> dict[str, str]:
-    """What a run shows of each story, by its name: the lines from one on that begins with it. What is not of one has the
-    empty name."""
+    """What a run shows of each story, by its name: the lines from one on that begins with it.
+
+    What is of none has the empty name.
+    """
     parts = dict.fromkeys(["", *names], "")
     name = ""
     for line in shown.splitlines(keepends=True):
