@@ -304,7 +304,7 @@ class Written(Program):
             self.look_for_files(runs)
         of_rights = [name for name, runs in book.cases if any(it.rights for it in runs)]
         if self.without_rights is None and of_rights:
-            self.left_out("nobody can't run the program here", f"{len(of_rights)} cases of files without rights")
+            self.left_out("the user nobody can't start the program", f"{len(of_rights)} cases of files without rights")
         for name, runs in book.cases:
             if self.without_rights is not None or not any(it.rights for it in runs):
                 self.case(name, self.check_runs, runs)

@@ -21,7 +21,7 @@ from pathlib import Path
 from typing import Any, Union
 
 # A run that is not over then has no end: none takes a second where nothing else runs.
-SECONDS = 300
+SECONDS = 120
 EXAMPLES = Path(__file__).resolve().parent.parent / "examples"
 # The words of a run: a text, or one by one where they have spaces or are no text.
 Words = Union[str, Sequence[Union[str, bytes]]]

@@ -124,7 +124,7 @@ class Cases(Written):
         kept.parent.chmod(0o777)
         self.give_away(kept)
         if not self.without_rights:
-            raise LeftOut("nobody can't run the program")
+            raise LeftOut("the user nobody can't start the program")
         told = "zkit: open/kept: the game was saved, but the file has another owner or group than before\n"
         words = "play --save open/kept saves_on.z3"
         self.check((0, "", told), words, user=3, group=4, extra_groups=[])
