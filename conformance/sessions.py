@@ -214,6 +214,13 @@ class Sessions(Asked):
         same(b"two/a.z3:\ntwo/b.z3:\n", self.read("listed"))
         same("two/a.z3:\ntwo/b.z3:\n", self.at_terminal("check --recursive two"))
 
+    def counts_stand_before_the_last_line(self) -> None:
+        """What is counted at a terminal goes before the last line, and the words have lines of their own."""
+        self.write({"two/a.z3": FILES["verifies_right.z3"]})
+        told = "zkit: missing: there is no such file or folder\nzkit: read failed\n"
+        came = self.at_terminal("check --recursive two missing > listed")
+        same((told, True), (came[-len(told):], came[:-len(told)].endswith("\n")), came)
+
     def facts_of_tables(self) -> None:
         """Globals, alphabets, the extension and properties, in rows and in JSON."""
         rows = ((1, "0013e"), (2, "00140"), (3, "00142"))
