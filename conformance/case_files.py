@@ -9,6 +9,7 @@ writes the stories and other files of a file to a folder. README.md describes th
 
 from __future__ import annotations
 
+import contextlib
 import os
 import re
 import sys
@@ -16,23 +17,35 @@ from collections.abc import Iterator
 from dataclasses import dataclass, field, replace
 from pathlib import Path
 
-from cases import ANY, EXAMPLES, SOME, Program, begins, has, last, same, text_of
+from cases import ANY, DEVICES, EXAMPLES, SOME, Ended, Program, Wanted, begins, has, same, text_of
+from ending import end_with
 from run import BadRow, unquote
 
 CODE = 0x40
-STATUS = {"quit": 0, "usage": 1, "refused": 1, "fault": 2, "limit": 3, "read": 4, "write": 4}
-END = re.compile(r"quit|usage|(read|write) failed|refused \d|(fault|limit) \d+ at [0-9a-f]{5}")
+STATUS = {"quit": 0, "refused": 1, "fault": 2, "limit": 3, "read": 4, "write": 4}
+END = re.compile(r"quit|(read|write) failed|refused \d|(fault|limit) \d+ at [0-9a-f]{5}")
+WRITE_FAILED = "zkit: write failed"
 HEXADECIMAL = re.compile(r"(?:[0-9A-Fa-f]{2})+")
 QUOTED = r'"(?:[^"\\]|\\.)*"'
 WORD = rf"{QUOTED}|\{{[^{{}}]*\}}|[^\s\"{{}}]+"
 WORDS = re.compile(rf"(?:\s*(?:{WORD})(?!\S))*\s*")
 NAMED = re.compile(rf"({QUOTED}|[^\s\":]+):(?:\s+(.*))?")
-REDIRECTION = re.compile(r"[0-2]?[<>](&-|/dev/\w+)")
-# The words of lines that stand before what comes of a run, those that may stand more than once, and those of which one
-# has to.
-BEFORE = {"write", "link", "folder", "run"}
-OFTEN = {*BEFORE, "holds"}
-ENDINGS = {"end", "status", "screen", "errors", "last", "told", "holds"}
+REDIRECTION = re.compile(r"[0-2]?[<>](&[-012]|[\w/.]+)")
+# The words of lines that stand before what comes of a run, the first of which may stand more than once; all of which
+# this is so; and those of which one has to stand there.
+MANY_BEFORE = {"write", "link", "folder", "rights", "run"}
+BEFORE = {*MANY_BEFORE, "output", "error-output", "room"}
+OFTEN = {*MANY_BEFORE, "holds"}
+ENDINGS = {"end", "status", "usage", "screen", "errors", "last", "told", "holds"}
+# What a command takes, as its message on usage says it.
+TAKES = {
+    "play": "[OPTIONS] <STORY>",
+    "info": "[OPTIONS] <STORY>...",
+    "disasm": "[OPTIONS] <STORY>",
+    "check": "[OPTIONS] <STORY>...",
+    "test": "[OPTIONS] <PATH>...",
+    "unpack": "<FILE> <OUT>",
+}
 
 
 @dataclass
@@ -45,9 +58,14 @@ class Run:
     before: dict[str, bytes] = field(default_factory=dict)  # files that are written before it
     links: dict[str, str] = field(default_factory=dict)  # and links with what they lead to
     folders: list[str] = field(default_factory=list)  # and folders that are made
+    rights: dict[str, int] = field(default_factory=dict)  # and what may be done with some of these
     typed: bytes = b""
     redirected: str = ""  # as by a shell
-    status: object = 0
+    output: list[str] = field(default_factory=list)  # what fails in the place of standard output, in turn,
+    error_output: list[str] = field(default_factory=list)  # or of standard error
+    room: int | None = None  # how long a file may get
+    status: int = 0
+    usage: str | None = None  # what is wrong with the words, where that is told with the usage
     screen: object = ""
     errors: object = ""
     told: str = ""  # the lines of errors before the last, where they are said,
@@ -145,7 +163,8 @@ class Book:
         if word in run.said - OFTEN or word in BEFORE and run.said - BEFORE:
             raise BadRow(f"{word} stands twice, or behind what comes of a run that no empty line ends")
         run.said.add(word)
-        name, words = name_and_rest(rest) if word in ("write", "link", "holds") else ("", words_of(rest))
+        is_named = word in ("write", "link", "rights", "holds")
+        name, words = name_and_rest(rest) if is_named else ("", words_of(rest))
         if word == "run":
             run.words.append(rest)
         elif word == "write":
@@ -154,17 +173,28 @@ class Book:
             run.links[name] = text_of(b" ".join(word_bytes(it) for it in words))
         elif word == "folder":
             run.folders.append(text_of(word_bytes(rest)))
+        elif word == "rights":
+            run.rights[name] = int(" ".join(words), 8)
         elif word == "holds":
             run.holds[name] = None if words == ["nothing"] else self.read_wanted(words)
         elif word == "input":
             run.typed = self.read_bytes(words)
         elif word == "redirect" and all(REDIRECTION.fullmatch(it) for it in words):
             run.redirected = rest
-        elif word == "status":
-            run.status = ANY if rest == "anything" else int(rest)
+        elif word in ("output", "error-output") and words and set(words) <= {*DEVICES}:
+            setattr(run, word.replace("-", "_"), words)
+        elif word == "room":
+            run.room = int(rest)
+        else:
+            self.take_of_end(run, word, words, rest)
+
+    def take_of_end(self, run: Run, word: str, words: list[str], rest: str) -> None:
+        """Takes a line on what comes of a run."""
+        if word == "status":
+            run.status = int(rest)
         elif word in ("screen", "errors"):
             setattr(run, word, self.read_wanted(words))
-        elif word in ("last", "told"):
+        elif word in ("usage", "last", "told"):
             setattr(run, word, text_of(self.read_bytes(words)))
         elif word == "end" and END.fullmatch(rest):
             run.status = STATUS[rest.split()[0]]
@@ -179,11 +209,14 @@ class Book:
             return
         if not run.words or not run.said & ENDINGS or run.told and not run.last:
             raise BadRow("the lines above lack a run, what comes of it, or the last line behind what is told")
-        if len(run.said & {"end", "errors", "last"}) > 1 or {"end", "status"} <= run.said:
+        if len(run.said & {"end", "errors", "last", "usage"}) > 1 or len(run.said & {"end", "status", "usage"}) > 1:
             raise BadRow("the lines above say twice how a run ends")
+        if run.errors is ANY or run.errors is SOME:
+            raise BadRow("the words of standard error are needed")
+        if run.error_output and run.said & {"end", "errors", "last", "usage"}:
+            raise BadRow("nothing is seen of a standard error that fails: only the status is")
         if run.last:
-            usage = run.last == "zkit: usage"
-            run.errors = f"{run.told}\n{run.last}\n" if run.told else SOME if usage else last(run.last)
+            run.errors = f"{run.told}\n{run.last}\n" if run.told else f"{run.last}\n"
         if self.in_case:
             self.cases[-1][1].append(run)
         else:
@@ -242,6 +275,24 @@ class Book:
         return text_of(self.read_bytes(words))
 
 
+def usage_of(words: str, wrong: str) -> str:
+    """What is told where something is wrong with the words of a run."""
+    command = words.split(" ")[0]
+    takes = f"{command} {TAKES[command]}" if command in TAKES else "<COMMAND>"
+    return f"error: {wrong}\n\nUsage: zkit {takes}\n\nFor more information, try '--help'.\n"
+
+
+def wanted_of(run: Run, words: str, device: str) -> Wanted:
+    """What has to come of a run, where a device fails if one is named."""
+    if run.output and run.last == WRITE_FAILED:
+        told = f"{run.told}\n" if run.told else ""
+        reason = f"zkit: the screen: {DEVICES[device]}\n" if DEVICES[device] else ""
+        return run.status, "", f"{told}{reason}{run.last}\n"
+    if run.usage is not None:
+        return 1, run.screen, usage_of(words, run.usage)
+    return run.status, run.screen, run.errors
+
+
 class Written(Program):
     """The program, with cases that stand in a file."""
 
@@ -251,8 +302,12 @@ class Written(Program):
         self.known.add("examples")
         for _, runs in book.cases:
             self.look_for_files(runs)
+        of_rights = [name for name, runs in book.cases if any(it.rights for it in runs)]
+        if self.without_rights is None and of_rights:
+            self.left_out("the user nobody can't start the program", f"{len(of_rights)} cases of files without rights")
         for name, runs in book.cases:
-            self.case(name, self.check_runs, runs)
+            if self.without_rights is not None or not any(it.rights for it in runs):
+                self.case(name, self.check_runs, runs)
 
     def look_for_files(self, runs: list[Run]) -> None:
         """Ends the script where a run names a file with a dot in its name that is not there, nor named by its case."""
@@ -266,23 +321,40 @@ class Written(Program):
     def check_runs(self, runs: list[Run]) -> None:
         """Does the runs of a case. No file is left but those that it names, and these hold what was said last."""
         held: dict[str, object] = {}
+        links: set[str] = set()
         for run in runs:
             for name in run.folders:
                 (self.folder / name).mkdir(parents=True)
             for name, target in run.links.items():
                 (self.folder / name).symlink_to(target)
-            for words in run.words:
+                links.add(name)
+            for words, device in [(it, to) for it in run.words for to in run.output or run.error_output or [""]]:
+                place = f"{run.place} {words}" + f" to {device}" * bool(device)
                 self.write(run.before)
                 held.update({name: text_of(content) for name, content in run.before.items()})
-                wanted = (run.status, run.screen, run.errors)
-                came = self.run([word_bytes(it) for it in words_of(words)], run.typed, run.redirected)
-                place = f"{run.place} {words}"
-                same(wanted, came, place)
+                same(wanted_of(run, words, device), self.come_of(run, words, device), place)
                 held.update(run.holds)
                 for name, content in held.items():
                     there = self.read(name)
                     same(content, there if there is None else text_of(there), f"{place}: {name}")
-                same([], [it for it in self.left() if it not in held], f"{place}: left")
+                same([], [it for it in self.left() if it not in {*held, *links}], f"{place}: left")
+
+    def come_of(self, run: Run, words: str, device: str) -> Ended:
+        """Does a run, where a device fails if one is named, and some files have not the rights that they have else."""
+        with contextlib.ExitStack() as until_then:
+            stream = "stdout" if run.output else "stderr"
+            how = self.failing(device, stream, until_then) if device else {}
+            if run.room is not None:
+                how |= self.within(run.room)
+            if run.rights:
+                how |= self.without_rights or {}
+            for name, mode in run.rights.items():
+                path = self.folder / name
+                until_then.callback(path.chmod, path.stat().st_mode)
+                path.chmod(mode)
+            redirected = f"{run.redirected} {how.pop('redirected', '')}".strip()
+            came = self.run([word_bytes(it) for it in words_of(words)], run.typed, redirected, **how)
+        return came
 
     def left(self) -> list[str]:
         """The paths of the files in the folder that were not there at first."""
@@ -300,4 +372,4 @@ def main() -> int:
 
 
 if __name__ == "__main__":
-    sys.exit(main())
+    end_with(main)

@@ -5,8 +5,11 @@ The cases are those of `program.py`, `sessions.py` and `failures.py`.
 
 from __future__ import annotations
 
+import contextlib
+import functools
 import itertools
 import os
+import resource
 import select
 import shutil
 import subprocess
@@ -17,7 +20,8 @@ from collections.abc import Callable, Mapping, Sequence
 from pathlib import Path
 from typing import Any, Union
 
-SECONDS = 20
+# A run that is not over then has no end: none takes a second where nothing else runs.
+SECONDS = 120
 EXAMPLES = Path(__file__).resolve().parent.parent / "examples"
 # The words of a run: a text, or one by one where they have spaces or are no text.
 Words = Union[str, Sequence[Union[str, bytes]]]
@@ -31,6 +35,10 @@ Wanted = tuple[Any, Any, Any]
 
 class Differs(Exception):
     """What came is not what was wanted."""
+
+
+class LeftOut(Exception):
+    """A case can't be tried here; the words say why."""
 
 
 class Where:
@@ -59,11 +67,6 @@ def has(*texts: str) -> Where:
 def begins(text: str) -> Where:
     """A text that begins with another."""
     return Where(f"{text!r} and more", lambda it: it.startswith(text))
-
-
-def last(line: str) -> Where:
-    """A text with a last line."""
-    return Where(f"a text that ends in {line!r}", lambda it: it.splitlines()[-1:] == [line])
 
 
 def shown(text: object) -> Wanted:
@@ -113,6 +116,17 @@ def shown_up_to(stream: int, text: str | None) -> str:
     return text_of(came)
 
 
+# What can't be written to, with the reason that is told: nothing is told where nobody reads a pipe any more.
+DEVICES = {
+    "full": "No space left on device (os error 28)",
+    "closed": "Bad file descriptor (os error 9)",
+    "file": "File too large (os error 27)",
+    "pipe": "",
+}
+# How long the file is that may get no longer.
+LENGTH = 1_000_000
+
+
 class Program:
     """The program in a folder of its own with some files. It counts the cases that agree and that differ."""
 
@@ -148,6 +162,42 @@ class Program:
         done = subprocess.run([*command, *parts], cwd=self.folder, input=typed, timeout=SECONDS, **how)
         return done.returncode, text_of(done.stdout), text_of(done.stderr)
 
+    def failing(self, device: str, stream: str, until_then: contextlib.ExitStack) -> dict[str, Any]:
+        """How the program is run whose standard output or standard error is a device that fails."""
+        if device == "closed":
+            return {"redirected": ">&-" if stream == "stdout" else "2>&-"}
+        if device == "full":
+            return {stream: until_then.enter_context(open("/dev/full", "wb"))}
+        if device == "pipe":
+            reader, writer = os.pipe()
+            os.close(reader)
+            return {stream: until_then.enter_context(open(writer, "wb"))}
+        file = until_then.enter_context(tempfile.TemporaryFile())
+        file.truncate(LENGTH)
+        file.seek(LENGTH)
+        return {stream: file, **self.within(LENGTH)}
+
+    def within(self, length: int) -> dict[str, Any]:
+        """How the program is run where no file may get longer, as on a device that is full."""
+        limit = functools.partial(resource.setrlimit, resource.RLIMIT_FSIZE, (length, length))
+        return {"preexec_fn": limit, "restore_signals": False}
+
+    @functools.cached_property
+    def without_rights(self) -> dict[str, Any] | None:
+        """How the program is run by who has no rights but those that a file gives, if it can be: root has others."""
+        if os.geteuid() != 0:
+            return {}
+        nobody: dict[str, Any] = {"user": 65534, "group": 65534, "extra_groups": []}
+        self.folder.chmod(0o755)
+        try:
+            return nobody if self.run("--version", **nobody)[0] == 0 else None
+        except (OSError, subprocess.SubprocessError):
+            return None
+
+    def left_out(self, why: str, what: str) -> None:
+        """Tells what can't be tried here."""
+        print(f"left out, as {why}: {what}")
+
     def check(self, wanted: Wanted, words: Words, typed: bytes = b"", **how: Any) -> None:
         """Runs the program, and looks whether it comes as wanted."""
         same(wanted, self.run(words, typed, **how), words if isinstance(words, str) else "")
@@ -160,7 +210,9 @@ class Program:
         """Runs a case, tells what differs, and takes away what it leaves in the folder."""
         try:
             check(*words)
-        except (Differs, OSError, ValueError, LookupError, subprocess.SubprocessError) as difference:
+        except LeftOut as why:
+            self.left_out(str(why), repr(name))
+        except Exception as difference:
             self.differ += 1
             print(f"differs: {name!r}: {difference if isinstance(difference, Differs) else repr(difference)}")
         else:
@@ -171,6 +223,16 @@ class Program:
             shutil.rmtree(path) if path.is_dir() and not path.is_symlink() else path.unlink()
 
 
+def as_zkit(command: list[str], folder: Path) -> list[str]:
+    """A command whose program has the name that its messages have in them, in a folder that all may look into."""
+    folder.chmod(0o755)
+    program = folder / "zkit"
+    if not os.path.isfile(command[-1]):
+        return command
+    program.symlink_to(os.path.abspath(command[-1]))
+    return [*command[:-1], str(program)]
+
+
 def run_cases(name: str, usage: str | None, kind: type[Program], files: Mapping[str, bytes]) -> int:
     """Runs cases by the command line of their script, tells how many agree, and answers the script's status."""
     words = sys.argv[1:]
@@ -179,9 +241,14 @@ def run_cases(name: str, usage: str | None, kind: type[Program], files: Mapping[
     if not command or command[0] == "--help":
         print(usage)
         return 0 if command else 1
-    command[0] = os.path.abspath(command[0])
-    with tempfile.TemporaryDirectory() as folder:
-        program = kind(command, Path(folder), files)
+    if not (found := shutil.which(command[0])):
+        print(f"{command[0]}: there is no such program", file=sys.stderr)
+        return 1
+    command[0] = os.path.abspath(found)
+    with tempfile.TemporaryDirectory() as place:
+        folder = Path(place, "files")
+        folder.mkdir()
+        program = kind(as_zkit(command, Path(place)), folder, files)
         program.verbose = verbose
         program.run_all()
     print(f"{name}: {program.agree} cases agree, {program.differ} differ")

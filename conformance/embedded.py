@@ -20,6 +20,7 @@ sys.dont_write_bytecode = True
 sys.path.insert(0, str(TOP / "examples/embed"))
 
 import play  # noqa: E402: it stands in the folder that was just named
+from ending import end_with  # noqa: E402
 
 FAULT, LIMIT, OUT_OF_MEMORY = 2, 3, 5
 SETTINGS = {"seed": 1, "frames": 1024, "words": 16384, "undo": 16, "steps": 10_000_000}
@@ -86,4 +87,4 @@ def main() -> int:
 
 
 if __name__ == "__main__":
-    sys.exit(main())
+    end_with(main)

@@ -24,6 +24,7 @@ from typing import NamedTuple
 
 from case_files import Book, Run, word_bytes, words_of
 from cases import SECONDS, Program, compiler, preloaded, takes_preloaded, text_of
+from ending import end_with, workers
 
 # Of a run with more allocations than this some are left out.
 MOST = 1_000
@@ -35,6 +36,9 @@ BESIDE = ".zkit-583876d75cd7d1d9"
 OLD_SCRIPT = b"an old transcript"
 NO_MEMORY = "zkit: out of memory\n"
 BOOK = Book(pathlib.Path(__file__).with_name("failures.cases"))
+FAILED_TEST = re.compile(
+    r"FAILED (\S+): (?:\S+: out of memory|the play ended with status 5\n    zkit: out of memory\n    )\n"
+)
 NOT_SAVED = re.compile(r"(?<=: the game was not saved: ).*")
 
 
@@ -108,18 +112,72 @@ def is_unread(plan: Plan, came: Came) -> bool:
     return came.status == 5 and came.told == NO_MEMORY and came.shown in (row, line)
 
 
+def parts_of(shown: str, names: Sequence[str]) -> dict[str, str]:
+    """What a run shows of each story, by its name: the lines from one on that begins with it.
+
+    What is of none has the empty name.
+    """
+    parts = dict.fromkeys(["", *names], "")
+    name = ""
+    for line in shown.splitlines(keepends=True):
+        begun = [it for it in names if line.startswith((f"{it}:", f"{it}\t", f'{{"form":1,"path":"{it}"'))]
+        name = begun[0] if begun else "" if line.startswith("total ") else name
+        parts[name] += line
+    return parts
+
+
+def may_stand(plan: Plan, name: str, part: str, whole: str) -> bool:
+    """Whether that may be shown of a story of several where memory may lack: it all, its first part, or why not.
+
+    A heading alone would say that there is nothing to find.
+    """
+    if plan.words[0] == "check" and part == f"{name}:\n":
+        return part == whole
+    row, line = f"{name}\tunread\tout of memory\n", f'{{"form":1,"path":"{name}","unread":"out of memory"}}\n'
+    return whole.startswith(part) or part in (f"{name}: out of memory\n", row, line)
+
+
+def is_without_some(plan: Plan, came: Came, whole: Came) -> bool:
+    """Whether a run lists several stories but for those for which memory lacked, and says so."""
+    names = [name for name in plan.before if name.startswith("some/")]
+    parts, wholes = parts_of(came.shown, names), parts_of(whole.shown, names)
+    return (
+        bool(names)
+        and came.status == max(5, int(whole.status))
+        and whole.told == came.told.replace(NO_MEMORY, "") != came.told
+        and all(may_stand(plan, name, parts[name], wholes[name]) for name in names)
+        and came._replace(status=0, shown="", told="") == whole._replace(status=0, shown="", told="")
+    )
+
+
+def is_failed_test(plan: Plan, came: Came, whole: Came) -> bool:
+    """Whether a run has tests of which one fails for lack of memory, and no other."""
+    *tests, _ = FAILED_TEST.sub(r"passed \1\n", came.shown).splitlines() or [""]
+    return (
+        plan.words[0] == "test"
+        and came.status == 1
+        and tests == whole.shown.splitlines()[:-1]
+        and came._replace(status=0, shown="") == whole._replace(status=0, shown="")
+    )
+
+
 def outcome(plan: Plan, came: Came, whole: Came, unsaved: Came) -> str | None:
     """What came of a run with a refused allocation, in words, or nothing where it may not be."""
     if came == whole:
         return "changed nothing"
     if is_cut_off(plan, came, whole) or is_unread(plan, came):
         return "ended the run"
+    if is_without_some(plan, came, whole):
+        return "left out a story"
+    if is_failed_test(plan, came, whole):
+        return "failed a test"
     # as one whose save was refused for another reason
     if came == unsaved._replace(told=NOT_SAVED.sub("out of memory", unsaved.told)):
         return "refused the save"
-    # There was no memory for the line in words.
-    last = whole.told.splitlines(keepends=True)[-1:]
-    if whole.status not in (0, 5) and came == whole._replace(told="".join(last)):
+    # there was no memory for the lines in words, or for those of the calls
+    lines = whole.told.splitlines(keepends=True)
+    fewer = ["".join(lines[-1:]), "".join(it for it in lines if not it.startswith("zkit: in "))]
+    if whole.status not in (0, 5) and came._replace(told="") == whole._replace(told="") and came.told in fewer:
         return "left out the words"
     return None
 
@@ -187,7 +245,7 @@ def main() -> None:
     with tempfile.TemporaryDirectory() as place:
         library = preloaded("refused_memory.c", pathlib.Path(place))
         counts: Counter[str] = Counter()
-        with concurrent.futures.ThreadPoolExecutor(os.cpu_count()) as pool:
+        with workers(os.cpu_count() or 1) as pool:
             for plan in [Plan(it, words) for _, runs in BOOK.cases for it in runs for words in it.words]:
                 check_plan(pool, functools.partial(run, command, library), plan, counts, verbose)
     if counts["left_out"]:
@@ -198,4 +256,4 @@ def main() -> None:
 
 
 if __name__ == "__main__":
-    main()
+    end_with(main)

@@ -15,6 +15,8 @@ import sys
 from collections.abc import Iterable
 from pathlib import Path
 
+from ending import end_with
+
 LENGTHS = {3: 131_072, 4: 262_144, 5: 262_144, 8: 524_288}
 UNITS = {3: 2, 4: 4, 5: 4, 8: 8}
 
@@ -143,12 +145,13 @@ def main() -> None:
     """Writes the stories."""
     if len(sys.argv) < 2 or sys.argv[1].startswith("-"):
         sys.exit(str(__doc__).splitlines()[2])
-    folder = Path(sys.argv[1])
+    folder, stories = Path(sys.argv[1]), all_stories()
+    if unknown := [name for name in sys.argv[2:] if name not in stories]:
+        sys.exit(f"hostile.py: there is no story {', '.join(unknown)}")
     folder.mkdir(parents=True, exist_ok=True)
-    stories = all_stories()
     for name in sys.argv[2:] or stories:
         (folder / name).write_bytes(stories[name])
 
 
 if __name__ == "__main__":
-    main()
+    end_with(main)

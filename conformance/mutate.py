@@ -31,6 +31,7 @@ import run
 import test
 from arms import Turned, numbers_at
 from edits import BadEdit, Edit, edited, must_fail, mutants, refused, why_not
+from ending import end_with
 from sources import FOLDER, TOP, crates
 
 RUNNING: list[Popen[str]] = []  # the builds that this script has begun
@@ -419,4 +420,4 @@ def main() -> None:
 
 
 if __name__ == "__main__":
-    main()
+    end_with(main)

@@ -22,6 +22,7 @@ from collections import Counter
 from collections.abc import Iterable
 
 from edits import Edit, must_fail, refused, why_not
+from ending import end_with
 from sources import TOP, begin_rt, copy_of, crates
 
 # The parts of a crate that its proof reads.
@@ -70,7 +71,9 @@ def is_of_a_definition(edit: Edit) -> bool:
 
 @functools.cache
 def commit() -> str:
-    """The commit, or nothing in a copy that has no history."""
+    """The commit, or nothing in a copy that has no history, or without git."""
+    if not shutil.which("git"):
+        return ""
     return subprocess.run(["git", "-C", str(TOP), "rev-parse", "HEAD"], capture_output=True, text=True).stdout.strip()
 
 
@@ -132,6 +135,8 @@ def read_options() -> argparse.Namespace:
 def main() -> int:
     """Tries the edits that are asked for, and answers 0 where each is refused."""
     options = read_options()
+    if unknown := sorted({*options.crates} - {*crates()}):
+        sys.exit(f"refuse.py: there is no crate {', '.join(unknown)}")
     edits = refused()
     for edit in [*edits, *must_fail()]:
         if why := why_not(edit):
@@ -150,4 +155,4 @@ def main() -> int:
 
 
 if __name__ == "__main__":
-    sys.exit(main())
+    end_with(main)

@@ -12,7 +12,6 @@ from __future__ import annotations
 
 import argparse
 import collections
-import concurrent.futures
 import json
 import os
 import pathlib
@@ -25,7 +24,10 @@ from collections.abc import Callable
 from dataclasses import dataclass, field
 from typing import NamedTuple
 
-SECONDS = 20
+from ending import end_with, workers
+
+# A play that is not over then has no end: none takes a second where nothing else runs.
+SECONDS = 120
 FOLDER = pathlib.Path(__file__).resolve().parent
 
 # The words of the header that a row may set: their addresses, and what they are where it does not.
@@ -346,7 +348,7 @@ def play_all(rows: list[tuple[str, Row]], options: argparse.Namespace) -> tuple[
     """
     plain: Counts = {}
     choices: Counts = {}
-    with tempfile.TemporaryDirectory() as folder, concurrent.futures.ThreadPoolExecutor(4) as pool:
+    with tempfile.TemporaryDirectory() as folder, workers(4) as pool:
         jobs = [[(it, pool.submit(play, row, it, options, folder)) for it in row.versions] for _, row in rows]
         for (chapter, row), plays in zip(rows, jobs):
             results = []
@@ -368,6 +370,8 @@ def main() -> None:
         write_all(options.write)
         sys.exit(0)
     named = [(chapter, row) for chapter, row in all_rows() if options.only in f"{chapter} {row.name}"]
+    if not named:
+        sys.exit(f"conformance/run.py: no row has these words in its file or name: {options.only}")
     plain_ones = [(chapter, row) for chapter, row in named if row.end == "quit" and not row.options("")]
     chosen = plain_ones if options.screen_only else named
     plain, choices = play_all(chosen, options)
@@ -384,4 +388,4 @@ def main() -> None:
 
 
 if __name__ == "__main__":
-    main()
+    end_with(main)

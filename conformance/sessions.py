@@ -16,13 +16,13 @@ import re
 import resource
 import shlex
 import signal
-import sys
 from collections.abc import Iterable
 from pathlib import Path
 from typing import Any
 
 from case_files import Book, Written
-from cases import ANY, begins, has, run_cases, same, shown, shown_up_to, text_of
+from cases import ANY, LeftOut, begins, has, run_cases, same, shown, shown_up_to, text_of
+from ending import end_with
 
 BOOK = Book(Path(__file__).with_name("sessions.cases"))
 FILES = BOOK.files
@@ -41,7 +41,10 @@ class Asked(Written):
     def at_terminal(self, words: str, turns: Iterable[tuple[str, str]] = (), **variables: str) -> str:
         """All that is shown at a terminal, by words of a shell, where a line is typed after each of some texts."""
         line = f"{shlex.join(self.command)} {words}"
-        pid, terminal = pty.fork()
+        try:
+            pid, terminal = pty.fork()
+        except OSError as error:
+            raise LeftOut("there is no terminal to be had") from error
         if pid == 0:
             os.chdir(self.folder)
             os.execve("/bin/sh", ["sh", "-c", line], {**os.environ, **variables})
@@ -55,8 +58,10 @@ class Asked(Written):
         return came.replace("\r\n", "\n")
 
     def facts_of(self, words: str, typed: bytes = b"") -> Any:
-        """The facts of a story in JSON."""
-        return json.loads(self.run(words, typed)[1])
+        """The facts of a story in JSON, of which nothing else is told."""
+        _, facts, told = self.run(words, typed)
+        same("", told, words)
+        return json.loads(facts)
 
 
 class Sessions(Asked):
@@ -65,11 +70,13 @@ class Sessions(Asked):
     # ---- an evening
 
     def seeds_of_the_clock(self) -> None:
-        """`--seed any` tells the seed, and that seed gives the same play."""
-        status, text, told = self.run("play --seed any throws.z5", b"x\n")
+        """`--seed any` tells the seed, that seed gives the same play, and a record has it."""
+        status, text, told = self.run("play --seed any --record made throws.z5", b"x\n")
         found = re.fullmatch(r"zkit: using --seed (\d+)\n", told)
         same((0, True), (status, bool(found)), told)
-        self.check(shown(text), f"play --seed {found and found[1]} throws.z5", b"x\n")
+        seed = found and found[1]
+        self.check(shown(text), f"play --seed {seed} throws.z5", b"x\n")
+        same(f"# seed: {seed}", text_of(self.read("made")).splitlines()[1])
 
     def records_in_folders(self) -> None:
         """A record in a folder names the story from there."""
@@ -81,9 +88,9 @@ class Sessions(Asked):
             ("./it", whole),
             (str(self.folder / "made/whole"), whole),
         ):
-            self.run(["play", "--record", record, "echoes.z3"], b"abc\n! a\n")
+            self.check(shown("a!"), ["play", "--record", record, "echoes.z3"], b"abc\n! a\n")
             same([f"# story: {story_path}"], text_of(self.read(record)).splitlines()[:1], record)
-            self.check((0, ANY, ANY), ["test", "--bless", record])
+            self.check((0, ANY, ""), ["test", "--bless", record])
 
     def pages_wait_at_a_terminal(self) -> None:
         """After each page Enter is waited for, and a read begins a page anew."""
@@ -144,8 +151,11 @@ class Sessions(Asked):
         told = "zkit: some/pipe: no regular file, and left out\n"
         self.check((0, ifids, told), "info --ifid --recursive some")
         for name in (b"\xff.z3", b"\xfe.z3"):
-            with open(os.fsencode(self.folder / "some/b") + b"/" + name, "wb"):
-                pass
+            try:
+                with open(os.fsencode(self.folder / "some/b") + b"/" + name, "wb"):
+                    pass
+            except OSError as error:
+                raise LeftOut("the folders here have no names but texts") from error
         told = "zkit: some/b: 2 names in it are no text (UTF-8), and left out\n" + told
         self.check((4, ifids, told), "info --ifid --recursive some")
         os.unlink(os.fsencode(self.folder / "some/b") + b"/\xff.z3")
@@ -163,6 +173,8 @@ class Sessions(Asked):
         status, lines, told = self.run("info --ifid --json --header --dictionary hello.z3 missing empty")
         hello, missing, empty = [json.loads(line) for line in lines.splitlines()]
         same((4, "ZCODE-0-000000", {}), (status, hello["ifid"], hello["dictionary"]), told)
+        words = "zkit: missing: there is no such file or folder\nzkit: read failed\n"
+        same(words + "zkit: empty: not a story: the file is shorter than a header\nzkit: refused 1\n", told)
         same({"form": 1, "path": "missing", "unread": "read failed"}, missing)
         same({"form": 1, "path": "empty", "refused": 1, "why": "too short"}, empty)
         strings = self.facts_of("info --strings --json whole.z3")["strings"]
@@ -181,7 +193,7 @@ class Sessions(Asked):
     def texts_are_told_as_they_are(self) -> None:
         """A circumflex and a tilde of a name are themselves in rows, in JSON and in a graph."""
         same("^~", self.facts_of("info --objects --json marks.z3")["objects"][0]["name"])
-        self.check((ANY, begins("marks.z3\tobject\t1\t^~\t0\t0\t0\t-\t-\n"), ANY), "info --objects --rows marks.z3")
+        self.check(shown(begins("marks.z3\tobject\t1\t^~\t0\t0\t0\t-\t-\n")), "info --objects --rows marks.z3")
         same('  o1 [label="1 ^~"];', self.run("info --graph marks.z3")[1].splitlines()[2])
         same('1 "^~"', self.run("info --tree marks.z3")[1].splitlines()[1])
 
@@ -190,10 +202,10 @@ class Sessions(Asked):
         lighthouse, links = FILES["lighthouse.z5"], FILES["links.z3"]
         same([FOUND], self.facts_of("check --json /dev/stdin", links)["findings"][1:])
         meaning = "the parent, the sibling or the child of this object has a number past the last object"
-        _, noted, _ = self.run("check --notes /dev/stdin", links)
-        same([f"C5 000c7 object links  ; object 2: {meaning}"], noted.splitlines()[1:])
+        status, noted, told = self.run("check --notes /dev/stdin", links)
+        same((6, [f"C5 000c7 object links  ; object 2: {meaning}"], ""), (status, noted.splitlines()[1:], told))
         self.check(self.run("info --notes lighthouse.z5"), "info --notes /dev/stdin", lighthouse)
-        self.check((ANY, has("compiler Inform"), ANY), "info --notes /dev/stdin", lighthouse)
+        self.check(shown(has("compiler Inform")), "info --notes /dev/stdin", lighthouse)
 
     def files_are_counted_at_a_terminal(self) -> None:
         """A terminal shows how many files were looked at."""
@@ -201,6 +213,13 @@ class Sessions(Asked):
         same("1 of 2\r" + 24 * " " + "\r", self.at_terminal("check --recursive two > listed"))
         same(b"two/a.z3:\ntwo/b.z3:\n", self.read("listed"))
         same("two/a.z3:\ntwo/b.z3:\n", self.at_terminal("check --recursive two"))
+
+    def counts_stand_before_the_last_line(self) -> None:
+        """What is counted at a terminal goes before the last line, and the words have lines of their own."""
+        self.write({"two/a.z3": FILES["verifies_right.z3"]})
+        told = "zkit: missing: there is no such file or folder\nzkit: read failed\n"
+        came = self.at_terminal("check --recursive two missing > listed")
+        same((told, True), (came[-len(told):], came[:-len(told)].endswith("\n")), came)
 
     def facts_of_tables(self) -> None:
         """Globals, alphabets, the extension and properties, in rows and in JSON."""
@@ -217,4 +236,4 @@ class Sessions(Asked):
 
 
 if __name__ == "__main__":
-    sys.exit(run_cases("sessions", __doc__, Sessions, FILES))
+    end_with(lambda: run_cases("sessions", __doc__, Sessions, FILES))

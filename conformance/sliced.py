@@ -21,6 +21,7 @@ from pathlib import Path
 import embedded
 import hostile
 import play
+from ending import end_with
 
 PLACES = {
     **hostile.PLACES,
@@ -137,4 +138,4 @@ def main() -> int:
 
 
 if __name__ == "__main__":
-    sys.exit(main())
+    end_with(main)

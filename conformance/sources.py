@@ -9,6 +9,7 @@ import functools
 import pathlib
 import re
 import shutil
+import sys
 from collections.abc import Iterable, Iterator
 from subprocess import DEVNULL, PIPE, STDOUT, Popen
 from typing import NamedTuple
@@ -45,6 +46,8 @@ def copy_of(folder: pathlib.Path) -> None:
 
 def begin_rt(words: list[str], folder: pathlib.Path) -> Popen[str]:
     """Begins a command of `rt` in a folder. All that it says is one text."""
+    if not shutil.which("rt"):
+        sys.exit("there is no command rt, and nothing is tried")
     return Popen(["rt", *words], cwd=folder, stdin=DEVNULL, stdout=PIPE, stderr=STDOUT, text=True, errors="replace")
 
 

@@ -14,6 +14,11 @@ from collections.abc import Iterator
 from pathlib import Path
 
 TOP = Path(__file__).resolve().parent.parent
+sys.dont_write_bytecode = True
+sys.path.append(str(TOP / "conformance"))
+
+from ending import end_with  # noqa: E402: it stands in the folder that was just named
+
 MOST = 120
 BUILT = {"out", ".git"}
 KINDS = {".md", ".c", ".h", ".js", ".py", ".rt", ".antt", ".cases"}
@@ -32,6 +37,8 @@ def prose(text: str) -> Iterator[tuple[int, str]]:
 def main() -> int:
     """Tells the lines that are too long."""
     status = 0
+    if sys.argv[1:]:
+        sys.exit(__doc__)
     paths = [it for it in TOP.rglob("*") if it.suffix in KINDS and not BUILT & {*it.relative_to(TOP).parts}]
     for path in sorted(paths):
         text = path.read_text("utf-8")
@@ -43,4 +50,4 @@ def main() -> int:
 
 
 if __name__ == "__main__":
-    sys.exit(main())
+    end_with(main)

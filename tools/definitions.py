@@ -39,6 +39,7 @@ sys.path.insert(0, str(TOP / "conformance"))
 
 import run  # noqa: E402: these stand in the folder that was just named
 from edits import Edit, must_fail, refused  # noqa: E402
+from ending import end_with  # noqa: E402
 from sources import blocks_of, crates, functions_of  # noqa: E402
 
 PAGE = TOP / "docs" / "DEFINITIONS.md"
@@ -878,4 +879,4 @@ def main(words: list[str]) -> int:
 
 
 if __name__ == "__main__":
-    sys.exit(main(sys.argv[1:]))
+    end_with(lambda: main(sys.argv[1:]))

@@ -26,7 +26,8 @@ TOP = pathlib.Path(__file__).resolve().parent.parent
 sys.dont_write_bytecode = True
 sys.path.append(str(TOP / "conformance"))
 
-import sources  # noqa: E402: it stands in the folder that was just named
+import sources  # noqa: E402: these stand in the folder that was just named
+from ending import end_with  # noqa: E402
 
 PAGE = TOP / "docs/PROVING.md"
 BEGIN, END = "<!-- the table of tools/gate_times.py begins -->\n", "<!-- the table of tools/gate_times.py ends -->\n"
@@ -125,4 +126,4 @@ def main() -> None:
 
 
 if __name__ == "__main__":
-    main()
+    end_with(main)

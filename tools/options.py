@@ -20,6 +20,11 @@ from pathlib import Path
 from typing import NamedTuple, Optional
 
 TOP = Path(__file__).resolve().parent.parent
+sys.dont_write_bytecode = True
+sys.path.append(str(TOP / "conformance"))
+
+from ending import end_with  # noqa: E402: it stands in the folder that was just named
+
 TABLE = TOP / "crates" / "zk_command" / "src" / "options.rt"
 SECTIONS = TOP / "crates" / "zk_inspect" / "src" / "section.rt"
 FINDINGS = TOP / "crates" / "zk_inspect" / "src" / "check" / "finding.rt"
@@ -209,6 +214,8 @@ def made() -> dict[Path, str]:
 
 def main() -> int:
     """Writes the pages, or tells which are not as they have to be, and in both ways what they lack."""
+    if sys.argv[1:] not in ([], ["--write"]):
+        sys.exit(__doc__)
     pages = made()
     told = lacking()
     for path, text in pages.items():
@@ -224,4 +231,4 @@ def main() -> int:
 
 
 if __name__ == "__main__":
-    sys.exit(main())
+    end_with(main)

@@ -32,6 +32,7 @@ from dataclasses import dataclass, field
 from pathlib import Path
 
 from definitions import Definition, Function, read_sources, read_specs
+from ending import end_with
 from sources import crates
 
 TOP = Path(__file__).resolve().parent.parent
@@ -253,6 +254,8 @@ def look_at_private(text: str, book: Book) -> Iterator[str]:
 def main() -> int:
     """Looks at all rows, and answers 1 where something is wrong."""
     moves = sys.argv[1:] == ["--write"]
+    if sys.argv[1:] and not moves:
+        sys.exit(__doc__)
     lines = PAGE.read_text("utf-8").split("\n")
     book = Book()
     complaints: list[str] = []
@@ -286,4 +289,4 @@ def main() -> int:
 
 
 if __name__ == "__main__":
-    sys.exit(main())
+    end_with(main)

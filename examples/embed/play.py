@@ -10,6 +10,7 @@ is that of `zkit play`.
 from __future__ import annotations
 
 import ctypes
+import os
 import pathlib
 import sys
 from collections.abc import Callable, Iterator
@@ -175,4 +176,13 @@ def main() -> int:
 
 
 if __name__ == "__main__":
-    sys.exit(main())
+    try:
+        sys.exit(main())
+    except OSError as error:
+        words = f"{error.filename}: {error.strerror}" if error.filename else str(error)
+        print(f"play.py: {words}", file=sys.stderr)
+        # what standard output does not take is not tried once more
+        os.dup2(os.open(os.devnull, os.O_WRONLY), 1)
+        sys.exit(4)
+    except KeyboardInterrupt:
+        sys.exit("play.py: stopped")
