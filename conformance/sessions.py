@@ -156,7 +156,7 @@ class Sessions(Asked):
                     pass
             except OSError as error:
                 raise LeftOut("the folders here have no names but texts") from error
-        told = "zkit: some/b: 2 names in it are no text (UTF-8), and left out\n" + told
+        told = "zkit: some/b: 2 names in it are no text (UTF-8), and left out\n" + told + "zkit: read failed\n"
         self.check((4, ifids, told), "info --ifid --recursive some")
         os.unlink(os.fsencode(self.folder / "some/b") + b"/\xff.z3")
         told = told.replace("2 names in it are", "1 name in it is")
@@ -215,11 +215,11 @@ class Sessions(Asked):
         same("two/a.z3:\ntwo/b.z3:\n", self.at_terminal("check --recursive two"))
 
     def counts_stand_before_the_last_line(self) -> None:
-        """What is counted at a terminal goes before the last line, and the words have lines of their own."""
+        """What is counted at a terminal goes before the last line, and the words stand over it."""
         self.write({"two/a.z3": FILES["verifies_right.z3"]})
         told = "zkit: missing: there is no such file or folder\nzkit: read failed\n"
         came = self.at_terminal("check --recursive two missing > listed")
-        same((told, True), (came[-len(told):], came[:-len(told)].endswith("\n")), came)
+        same((told, True), (came[-len(told):], came[:-len(told)].endswith("\r")), came)
 
     def facts_of_tables(self) -> None:
         """Globals, alphabets, the extension and properties, in rows and in JSON."""
