@@ -2,10 +2,11 @@
 // Tests of zkit.wasm in Node, beside the program. web/test makes what they take, and runs them.
 // SPDX-License-Identifier: MIT OR Apache-2.0
 //
-// usage: web/tests.js MODULE PROGRAM FOLDER COUNT
+// usage: web/tests.js MODULE PROGRAM FOLDER COUNT [TEST]...
 //
 // FOLDER has what conformance/run.py --write and generated.py with COUNT write, the stories of
-// examples/embed/large.cases and, where there is a C compiler, the program kept.
+// examples/embed/large.cases and, where there is a C compiler, the program kept. Where tests are named, these are run
+// in that order, up to the first that fails.
 import { spawnSync } from "child_process";
 import { createHash } from "crypto";
 import fs from "fs";
@@ -16,7 +17,7 @@ import { telling, tellingStatus } from "./page_tests/stories.mjs";
 import { linesOf, play } from "./player.js";
 import { LISTINGS, Module, Refused } from "./zkit.js";
 
-const [MODULE, PROGRAM, FOLDER, COUNT] = process.argv.slice(2);
+const [MODULE, PROGRAM, FOLDER, COUNT, ...NAMES] = process.argv.slice(2);
 const EXAMPLES = fileURLToPath(new URL("../examples", import.meta.url));
 const PLAY = fileURLToPath(new URL("play.js", import.meta.url));
 const MENU = fs.readFileSync(new URL("page_tests/menu.z5", import.meta.url));
@@ -293,14 +294,19 @@ function inputs(module) {
     const long = (length, rest = "") => Buffer.from("x".repeat(length) + rest);
     const lines = [
         "look\r\ninventory\r\n", "look\n\n\r\nlook", "look\r\r\n", "\xe4\xf6\n\xff\n", "look\tx\n\0\n",
-        "\u{1F600}\n",
+        "\u{1F600}\n", "\rq\nq\n", "\r", "\r\r\nq\n", "q\r", "\ufeffroll\nq\n", "\ufeff", "\ufeff\r\nq\n",
+        "\ufeff\ufeffroll\n", "roll\n\ufeffroll\n", "q\n\ufeffq\nq\n", "\ufeff\ufeff\nq\n",
     ];
+    const marks = [[0xef], [0xef, 0xbb], [0xef, 0xbb, 10, 0xbf, 10], [0xef, 0xef, 0xbb, 0xbf, 10, 113, 10], [0xbb, 10]];
     const all = [
-        NONE, ...lines.map((text) => Buffer.from(text)), ...lines.map((text) => Buffer.from(text, "latin1")),
-        long(65_535), long(65_536), long(65_535, "\nlook\n"), long(70_000),
+        NONE, ...[...marks, ...lines].map((it) => Buffer.from(it)), ...lines.map((text) => Buffer.from(text, "latin1")),
+        long(65_535), long(65_536), long(65_535, "\nlook\n"), long(70_000), long(65_535, "\r\nlook\n"),
+        long(65_534, "\r\nlook\n"), long(65_535, "\r"),
+        Buffer.concat([Buffer.from("\ufeff"), long(65_535, "\nlook\n")]),
     ];
     for (const [i, input] of all.entries()) {
-        for (const [name, story, before] of [["a line", example("lighthouse.z5"), ""], ["keys", MENU, "menu\n"]]) {
+        const z5 = example("lighthouse.z5");
+        for (const [name, story, before] of [["a line", z5, ""], ["keys", MENU, "menu\n"], ["both", MENU, ""]]) {
             const typed = Buffer.concat([Buffer.from(before), input]);
             wantSame(byModule(module, story, {}, typed), byProgram(story, [], typed), `input ${i} as ${name}`);
         }
@@ -309,6 +315,13 @@ function inputs(module) {
             want(same(came, wanted), `input ${i} in parts of ${size}`);
         }
     }
+    let given = 0;
+    const typed = function* () {
+        for (const line of ["a\n", "b\n"])
+            yield (given++, Buffer.from(line));
+    };
+    const first = Buffer.from(linesOf(typed()).next().value);
+    want(String(first) === "a" && given === 1, "a line is there before the next one is typed");
 }
 
 /** Bytes in a thousand parts of a size, and the rest. */
@@ -671,11 +684,13 @@ async function main() {
         rows, examples, windows, listings, refusals, wordsOfReasons, refusedFiles, limits, seeds, inputs, commands,
         sums, figures, blorbs, snapshots, snapshotRefusals, thousand, large, full, worker, generated,
     ];
-    for (const test of tests) {
+    for (const test of NAMES.length === 0 ? tests : NAMES.map((name) => tests.find((it) => it.name === name))) {
         const begin = performance.now();
         const before = checks;
         await test(await Module.of(code));
         console.log(`${test.name}: ${checks - before} checks, ${secondsSince(begin)}`);
+        if (NAMES.length > 0 && bad > 0)
+            break;
     }
     process.exitCode = bad > 0 ? 1 : 0;
     console.log(`${checks - bad} of ${checks} checks hold`);
