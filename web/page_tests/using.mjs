@@ -3,7 +3,7 @@
 import { randomBytes } from "node:crypto";
 import { writeFileSync } from "node:fs";
 import { EXAMPLES, MENU, ROOT, basename, holds, join, native, readFileSync, same } from "./page.mjs";
-import { asking, counting, telling, tellingStatus } from "./stories.mjs";
+import { asking, counting, restoring, telling, tellingStatus } from "./stories.mjs";
 
 const Z5 = join(EXAMPLES, "lighthouse.z5");
 
@@ -154,6 +154,46 @@ async function endlessSaves(page) {
     await page.click("#asking-no");
     await page.until(() => document.getElementById("running-words").textContent === "You have stopped the story.");
     same(await page.isShown("go-on"), true, "whether the story can go on");
+}
+
+/** A story may ask for a saved game before it reads: the reader is asked each time, and what was answered is kept. */
+async function restoresFirst(page) {
+    const story = restoring(2, "Begun.\n>");
+    const file = join(page.browser.folder, "profile", "restores.z5");
+    writeFileSync(file, story);
+    const wanted = (lines) => native(["play", "--echo", file], lines).text;
+    await page.fresh();
+    await page.drop(story, "restores.z5");
+    for (let i = 0; i < 2; i++) {
+        await page.shown("restoring");
+        await page.click("#restore-none");
+    }
+    await page.until(() => document.getElementById("log").textContent.includes("Begun."));
+    await page.rests();
+    same(await page.run(() => document.querySelector("dialog[open]")?.id ?? ""), "", "the window at the first read");
+    await page.sayAll(["one", "two"]);
+    same(await page.transcript(), wanted("one\ntwo\n"), "the transcript");
+    await page.lines();
+    await page.click("#line-list li:last-child button");
+    await page.until(() => document.querySelectorAll("#log .typed").length === 1);
+    await page.rests();
+    same(await page.run(() => document.querySelector("dialog[open]")?.id ?? ""), "", "the window where a line is gone to");
+    same(await page.transcript(), wanted("one\n"), "the transcript before the second line");
+}
+
+/** A window that a story has opened and that is left for another story answers nothing there. */
+async function leftQuestion(page) {
+    await page.fresh();
+    await play(page, asking(), "asks.z5");
+    await page.say("go");
+    await page.shown("saving");
+    await page.drop(readFileSync(MENU), "menu.z5");
+    await page.until(() => document.getElementById("title").textContent === "menu.z5");
+    await page.until(() => document.getElementById("log").textContent.includes("A hall."));
+    await page.leave();
+    await page.rests();
+    await page.say("roll");
+    same(await page.transcript(), native(["play", "--echo", MENU], "roll\n").text, "the transcript of the other story");
 }
 
 /** A story may run for longer than `zkit play` lets it by itself. */
@@ -454,6 +494,8 @@ export const USING = [
     ["undo further than there are states", undoFar],
     ["the ways on from an end", ends],
     ["a story that saves without end", endlessSaves],
+    ["a story that restores before it reads", restoresFirst],
+    ["a question that is left for another story", leftQuestion],
     ["a story that runs for long", longRun],
     ["a story that was played before", continues],
     ["the twelve newest plays", twelvePlays],
