@@ -6,7 +6,7 @@
 //
 // FOLDER has what conformance/run.py --write and generated.py with COUNT write, the stories of
 // examples/embed/large.cases and, where there is a C compiler, the program kept. Where tests are named, these are run
-// in that order, up to the first that fails.
+// in that order, up to the first check that fails.
 import { spawnSync } from "child_process";
 import { createHash } from "crypto";
 import fs from "fs";
@@ -41,6 +41,8 @@ function want(holds, what) {
         return;
     bad++;
     process.stderr.write(`differs: ${what}\n`);
+    if (NAMES.length > 0)
+        process.exit(1);
 }
 
 const same = (one, other) => Buffer.compare(one, other) === 0;
@@ -315,13 +317,13 @@ function inputs(module) {
             want(same(came, wanted), `input ${i} in parts of ${size}`);
         }
     }
-    let given = 0;
-    const typed = function* () {
-        for (const line of ["a\n", "b\n"])
-            yield (given++, Buffer.from(line));
-    };
-    const first = Buffer.from(linesOf(typed()).next().value);
-    want(String(first) === "a" && given === 1, "a line is there before the next one is typed");
+    for (const byte of [0x61, 0xef, 0xbb]) {
+        const typed = (function* () {
+            yield Buffer.from([byte, 10]);
+            want(false, `the line of the byte ${byte} is there before the next one is typed`);
+        })();
+        want(linesOf(typed).next().value[0] === byte, `a line of the byte ${byte}`);
+    }
 }
 
 /** Bytes in a thousand parts of a size, and the rest. */
@@ -398,6 +400,18 @@ function figures(module) {
     game.close();
 }
 
+/** A text that begins with U+FEFF keeps it: it is a character like others there. */
+function firstCharacters(module) {
+    const story = telling(" ".repeat(9));
+    story[17] |= 1;
+    // print_unicode $FEFF; print_char 'a'; quit
+    story.set([0xbe, 0x0b, 0x3f, 0xfe, 0xff, 0xe5, 0x7f, 0x61, 0xba], 0x800);
+    const game = module.open(story);
+    want(game.turn() === "stopped" && game.text() === "\ufeffa", "a text that begins with U+FEFF");
+    want(game.transcript() === "\ufeffa", "a transcript that begins with U+FEFF");
+    game.close();
+}
+
 /** A chunk of a Blorb file. */
 function chunk(name, content) {
     const head = Buffer.alloc(8);
@@ -417,6 +431,7 @@ function blorb(kind, executable) {
 
 /** The story of a Blorb file is taken out of it, and each other file is itself. */
 function blorbs(module) {
+    const first = sizeOf(module);
     const story = example("lighthouse.z5");
     const file = blorb("ZCOD", story);
     const is = (it, bytes) => it !== null && Buffer.compare(Buffer.from(it), bytes) === 0;
@@ -426,6 +441,7 @@ function blorbs(module) {
         want(module.storyIn(other) === other, "a file that is no Blorb file");
     for (const none of [file.subarray(0, 12), file.subarray(0, file.length - 1), blorb("GLUL", story)])
         want(module.storyIn(none) === null, "a Blorb file without a story");
+    wantAllFree(module, first, "stories in files");
     const long = refusalOf(() => module.storyIn(blorb("ZCOD", Buffer.alloc(524_290))));
     want(long.number === 3 && long.message === "the file is too long for its version", "a story that is too long");
     const great = refusalOf(() => module.storyIn(blorb("ZCOD", Buffer.alloc(80 << 20))));
@@ -682,15 +698,13 @@ async function worker() {
 async function main() {
     const tests = [
         rows, examples, windows, listings, refusals, wordsOfReasons, refusedFiles, limits, seeds, inputs, commands,
-        sums, figures, blorbs, snapshots, snapshotRefusals, thousand, large, full, worker, generated,
+        sums, figures, firstCharacters, blorbs, snapshots, snapshotRefusals, thousand, large, full, worker, generated,
     ];
     for (const test of NAMES.length === 0 ? tests : NAMES.map((name) => tests.find((it) => it.name === name))) {
         const begin = performance.now();
         const before = checks;
         await test(await Module.of(code));
         console.log(`${test.name}: ${checks - before} checks, ${secondsSince(begin)}`);
-        if (NAMES.length > 0 && bad > 0)
-            break;
     }
     process.exitCode = bad > 0 ? 1 : 0;
     console.log(`${checks - bad} of ${checks} checks hold`);
