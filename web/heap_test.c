@@ -237,7 +237,7 @@ static void growing(void) {
     look_at_one_free();
 }
 
-/* The memory grows by the pages that a block lacks, of which what is free at its end is taken away, and nothing else. */
+/* The memory grows by the pages that a block lacks, less what is free at its end, and by nothing else. */
 static void grows_by(size_t size, size_t pages) {
     size_t there = pages_there;
     void *at = zkit_take(size);
