@@ -254,14 +254,16 @@ class Workers:
 
     def reach(self, names: list[str]) -> list[Case]:
         """Runs tests of the page without a plant, and answers which functions they come to."""
-        worker = self.free.get()
-        try:
-            found = worker.browser.run(worker.folder / "marked.html", [(it, 40000, 180000) for it in names])
-            if wrong := [f"{it['name']}: {it['refused']}" for it in found if it["refused"]]:
-                raise SystemExit("without a plant this refuses the page: " + "\n".join(wrong))
-            return [Case(it["name"], it["ms"], frozenset(it["came"])) for it in found]
-        finally:
-            self.free.put(worker)
+        worker, found, tries = self.free.get(), dict[str, Case](), 0
+        while left := [it for it in names if it not in found]:
+            for it in worker.browser.run(worker.folder / "marked.html", [(it, 40000, 180000) for it in left]):
+                if not it["refused"]:
+                    found[it["name"]] = Case(it["name"], it["ms"], frozenset(it["came"]))
+                    tries = 0
+                elif (tries := tries + 1) > 2:
+                    raise SystemExit(f"without a plant this refuses the page: {it['name']}: {it['refused']}")
+        self.free.put(worker)
+        return list(found.values())
 
     def reached(self, pool: concurrent.futures.Executor) -> list[Case]:
         """Runs all tests of the page, each with marks in it."""
