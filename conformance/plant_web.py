@@ -1,7 +1,8 @@
 #!/usr/bin/env python3
 """Plants slips by rule in the page, in the module's JavaScript and in files of C, and tells which no test refuses.
 
-usage: conformance/plant_web.py [-v] [--file NAME]... [--only WORDS] [--sample N] [--seed WORDS] [--list] [--jobs N]
+usage: conformance/plant_web.py [-v] [--file NAME]... [--only WORDS] [--sample N] [--seed WORDS] [--list] [--cases N]
+                                [--jobs N]
 
 Each plant is a changed copy of one file. README.md describes the rules, and the tests that refuse.
 """
@@ -44,11 +45,11 @@ ROWS, STORIES = 300, 100
 # What else these tests look at, and how long a part may take, in seconds.
 LOOKED_AT = {"web/page/sums.js": "sums", "web/page/worker.js": "worker"}
 SECONDS = 60
-# So many tests of the page are run for a plant at most.
-CASES = 30
+# So many tests of the page are run for a plant at most, if the command line does not say how many.
+CASES = 20
 MARK = '(self.$came ||= new Set()).has("{}") || (self.$came.add("{}"), console.debug("came {}"));'
 
-# The tests that refused plants of a file, the last of them first.
+# The tests that refused plants of a function and of a file, the last of them first.
 REFUSED: dict[str, list[str]] = collections.defaultdict(list)
 
 
@@ -190,14 +191,16 @@ class Worker:
             sys.exit(f"the page is not made: {said}")
         return made
 
-    def by_page(self, path: str, cases: list[Case]) -> Optional[Outcome]:
-        """Runs tests of the page up to the first that refuses it; those come first that refused others of its file."""
-        before = REFUSED[path]
-        chosen = sorted(cases, key=lambda it: before.index(it.name) if it.name in before else len(before))[:CASES]
+    def by_page(self, plant: Plant, cases: list[Case], most: int) -> Optional[Outcome]:
+        """Runs tests of the page up to the first that refuses it, those first that refused others of its place."""
+        places = f"{path_of(plant)} {plant.function}", path_of(plant)
+        before = list(dict.fromkeys(it for place in places for it in REFUSED[place]))
+        chosen = sorted(cases, key=lambda it: before.index(it.name) if it.name in before else len(before))[:most]
         limits = [(it.name, 2500 + it.took // 2, 15000 + 3 * it.took) for it in chosen]
         for it in self.browser.run(self.page(), limits) if limits else ():
             if it["refused"]:
-                REFUSED[path] = [it["name"], *(name for name in before if name != it["name"])]
+                for place in places:
+                    REFUSED[place] = [it["name"], *(name for name in REFUSED[place] if name != it["name"])]
                 kind = "no end" if it["refused"] == "no end" else "page"
                 return Outcome(kind, f"{it['name']}: {' '.join(it['refused'].split())[:200]}")
         return None
@@ -215,26 +218,27 @@ class Worker:
         words = ["cc", "-std=c99", "-O0", "-Wall", "-Wextra", "-Wpedantic", "-Werror", f"-I{TOP / 'include'}", "-c"]
         return run([*words, "-o", os.devnull, self.folder / path], self.folder)[0] == 0
 
-    def tests(self, path: str, cases: list[Case]) -> Optional[Outcome]:
-        """Runs the tests of a file."""
+    def tests(self, plant: Plant, cases: list[Case], most: int) -> Optional[Outcome]:
+        """Runs the tests of a plant's file."""
+        path = path_of(plant)
         if path in PARTS:
             return next((it for part in PARTS[path] if (it := self.by_node(part))), None)
         if path == "web/heap.c":
             return self.by_heap_test()
         if path.startswith("examples/"):
             test, *words = {"screen.c": ["curses/test"], "play.c": ["embed/test", "--play"]}[pathlib.Path(path).name]
-            return refused(test, *run([self.folder / "examples" / test, *words], self.folder))
+            return refused(test, *run([self.folder / "examples" / test, *words], self.folder, 25))
         outcome = self.by_node(LOOKED_AT[path]) if path in LOOKED_AT else None
-        return outcome or self.by_page(path, cases)
+        return outcome or self.by_page(plant, cases, most)
 
-    def tried(self, plant: Plant, cases: list[Case]) -> tuple[bool, Optional[Outcome]]:
+    def tried(self, plant: Plant, cases: list[Case], most: int) -> tuple[bool, Optional[Outcome]]:
         """Puts a plant into its file, and answers whether that compiles and what refuses it."""
         path = path_of(plant)
         place = self.folder / path
         text = place.read_text(encoding="utf-8")
         place.write_text(plant.planted(text), encoding="utf-8")
         try:
-            return (True, self.tests(path, cases)) if self.compiles(path) else (False, None)
+            return (True, self.tests(plant, cases, most)) if self.compiles(path) else (False, None)
         finally:
             place.write_text(text, encoding="utf-8")
 
@@ -245,7 +249,8 @@ class Worker:
 class Workers:
     """Some workers, of which each tries a plant at a time."""
 
-    def __init__(self, folder: pathlib.Path, jobs: int) -> None:
+    def __init__(self, folder: pathlib.Path, jobs: int, most: int) -> None:
+        self.most = most
         self.all = [Worker(folder / str(number)) for number in range(jobs)]
         self.free: queue.Queue[Worker] = queue.Queue()
         for worker in self.all:
@@ -283,7 +288,7 @@ class Workers:
         name, has_marks = f"{plant.file} {plant.function}", plant.function != "-" and plant.file != "worker.js"
         worker = self.free.get()
         try:
-            return worker.tried(plant, [it for it in cases if name in it.came or not has_marks])
+            return worker.tried(plant, [it for it in cases if name in it.came or not has_marks], self.most)
         finally:
             self.free.put(worker)
 
@@ -297,7 +302,7 @@ def names_of_cases() -> list[str]:
 def try_all(plants: list[Plant], options: argparse.Namespace, folder: pathlib.Path) -> Outcomes:
     """Tries plants, tells of each that nothing refuses, and answers what refuses those that compile."""
     outcomes: Outcomes = {}
-    workers, lock = Workers(folder, options.jobs), threading.Lock()
+    workers, lock = Workers(folder, options.jobs, options.cases), threading.Lock()
     with concurrent.futures.ThreadPoolExecutor(options.jobs) as pool, contextlib.ExitStack() as stack:
         for worker in workers.all:
             stack.callback(worker.browser.end)
@@ -327,6 +332,7 @@ def read_options() -> argparse.Namespace:
     words.add_argument("--sample", type=int, metavar="N", help="only so many plants, the same ones each time")
     words.add_argument("--seed", default="", help="another sample for each seed")
     words.add_argument("--list", action="store_true", help="try nothing: print the plants")
+    words.add_argument("--cases", type=int, default=CASES, metavar="N", help="so many tests of the page at most")
     words.add_argument("--jobs", type=int, default=2, help="how many plants are tried side by side")
     return words.parse_args()
 
