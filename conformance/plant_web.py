@@ -339,6 +339,8 @@ def read_options() -> argparse.Namespace:
 
 def main() -> int:
     """Tries the plants that are asked for, and answers 1 where one survives that is not known to."""
+    # what ends this ends its browsers too
+    signal.signal(signal.SIGTERM, lambda *_: sys.exit(1))
     options, begun = read_options(), time.monotonic()
     plants = [it for it in all_plants() if not options.file or any(name in path_of(it) for name in options.file)]
     plants = [it for it in plants if options.only in it.name()]

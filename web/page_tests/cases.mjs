@@ -469,6 +469,7 @@ async function withoutEnd(page) {
     await page.until(() => !document.getElementById("stop").hidden && !document.getElementById("running").hidden);
     await page.click("#stop");
     await page.until(() => document.getElementById("running-words").textContent.includes("stopped"));
+    same(await page.isShown("stop"), false, "whether a story that has stopped can be stopped");
     await page.click("#step-back");
     await page.until(() => !document.getElementById("ask").hidden);
     await page.say("print");
@@ -676,6 +677,13 @@ async function reflow(page) {
     holds(count >= 5, `${count} lines were joined`);
     const text = await page.run(() => document.getElementById("log").innerText);
     holds(text.includes("Your boat tugs at its rope.") && text.includes("HELP gives help.\n"), text);
+    await page.say("open bag");
+    const before = [await joins(), await page.text("prompt"), await page.text("log")];
+    await page.keeps(1);
+    await page.reload();
+    await page.rests();
+    const after = [await joins(), await page.text("prompt"), await page.text("log")];
+    same(after.join(), before.join(), "the joined lines, the prompt and the text after a reload");
     await page.open(MENU);
     await page.say("hello");
     same(await joins(), 0, "the number of joined lines of a story that does not wrap");

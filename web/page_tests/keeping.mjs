@@ -75,6 +75,22 @@ async function longReload(page) {
     holds(after.length >= most && after.length < most + 10000, `${after.length} characters are kept`);
 }
 
+/** A play that goes on after reloads has it in its answers once, however often it was loaded. */
+async function twoReloads(page) {
+    await page.fresh();
+    await page.open(MENU);
+    await page.say("roll");
+    for (const place of ["first", "second"]) {
+        await page.keeps(1);
+        await page.reload();
+        await page.rests();
+        same(await page.text("title"), "menu.z5", `the story after the ${place} reload`);
+    }
+    await page.lines();
+    const file = JSON.parse(readFileSync(await page.fileAfter(() => page.click("#play-file"))));
+    same(JSON.stringify(file.answers), '["roll",{"fresh":true}]', "the answers of the play");
+}
+
 /** Saves a game by the page's window, with a name. */
 async function save(page, name) {
     await page.say("save");
@@ -220,6 +236,7 @@ async function askedAtOnce(page) {
 export const KEEPING = [
     ["a kept story that has changed", changedStory],
     ["a reload of a long text", longReload],
+    ["two reloads", twoReloads],
     ["saved games that are removed", async (page) => (await page.fresh(), forgets(page, true))],
     ["a question right after another one", askedAtOnce],
     ...Object.keys(KEEPS_NOTHING).map((how) => [`a browser that keeps nothing: ${how}`, (page) => forgetsAll(page, how)]),

@@ -196,6 +196,18 @@ async function leftQuestion(page) {
     same(await page.transcript(), native(["play", "--echo", MENU], "roll\n").text, "the transcript of the other story");
 }
 
+/** While a file is dragged over the page, the page says where it may be dropped; no longer once it has gone. */
+async function draggedFile(page) {
+    const outlined = () => page.run(() => document.body.classList.contains("dragged"));
+    const drag = (kind) => page.run((name) => !dispatchEvent(new DragEvent(name, { bubbles: true, cancelable: true })), kind);
+    await page.fresh();
+    for (const [kind, isOver] of [["dragenter", true], ["dragleave", false], ["dragover", true], ["drop", false]]) {
+        same(await drag(kind), kind !== "dragleave", `whether the page takes ${kind}`);
+        same(await outlined(), isOver, `whether the page is marked after ${kind}`);
+    }
+    same(await page.isShown("welcome"), true, "whether the page still asks for a story");
+}
+
 /** A story may run for longer than `zkit play` lets it by itself. */
 async function longRun(page) {
     await page.fresh();
@@ -496,6 +508,7 @@ export const USING = [
     ["a story that saves without end", endlessSaves],
     ["a story that restores before it reads", restoresFirst],
     ["a question that is left for another story", leftQuestion],
+    ["a file that is dragged", draggedFile],
     ["a story that runs for long", longRun],
     ["a story that was played before", continues],
     ["the twelve newest plays", twelvePlays],
