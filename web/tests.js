@@ -144,6 +144,7 @@ function examples(module) {
 /** What is drawn beside the text. */
 function windows(module) {
     const box = module.open(example("box.z5"));
+    want(box.turn(1) === "time", "a turn of one instruction");
     want(box.turn() === "line" && box.window().height === 1 && box.window().tallest > 4, "the box: its height");
     want(box.tallestRows().some((row) => row.includes("Through me the way into the city")), "the box: its text");
     want(box.rows().join() === " The gate".padEnd(69) + "Turns: 0", "the box: the row that is left");
@@ -397,6 +398,17 @@ function figures(module) {
     const window = { height: 4, tallest: 4, row: 3, column: 8, selected: true };
     want(JSON.stringify(game.window()) === JSON.stringify(window), "a window");
     want(game.rows().join() === ",,      c," && game.tallestRows().join() === ",,      c,", "its rows");
+    game.close();
+}
+
+/** The last line of a story that has stopped for lack of memory or by too much text, as zkit.h numbers these. */
+function lastLines(module) {
+    const game = module.open(example("hello.z3"));
+    const most = "zkit: an instruction shows more text than there may be";
+    for (const [status, line] of [[0, ""], [1, ""], [5, "zkit: out of memory"], [6, most]]) {
+        game.status = () => status;
+        want(game.lastLine() === line, `the last line of status ${status}`);
+    }
     game.close();
 }
 
@@ -698,7 +710,8 @@ async function worker() {
 async function main() {
     const tests = [
         rows, examples, windows, listings, refusals, wordsOfReasons, refusedFiles, limits, seeds, inputs, commands,
-        sums, figures, firstCharacters, blorbs, snapshots, snapshotRefusals, thousand, large, full, worker, generated,
+        sums, figures, firstCharacters, lastLines, blorbs, snapshots, snapshotRefusals, thousand, large, full, worker,
+        generated,
     ];
     for (const test of NAMES.length === 0 ? tests : NAMES.map((name) => tests.find((it) => it.name === name))) {
         const begin = performance.now();
