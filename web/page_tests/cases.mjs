@@ -136,8 +136,8 @@ async function replacedSlot(page) {
     await page.until(() => !document.getElementById("saving").open);
     await page.say("open bag");
     await save();
-    await page.shown("asking");
-    holds((await page.text("asking-words")).includes("Jetty · line 1 ·"), await page.text("asking-words"));
+    await page.asks("Replace the saved game?", "Replace it", "Keep it");
+    holds((await page.text("asking-words")).startsWith("one: Jetty · line 1 ·"), await page.text("asking-words"));
     await page.click("#asking-no");
     await page.shown("saving");
     await page.click("#keep");
@@ -332,8 +332,8 @@ async function linkOfOwnStory(page) {
     same(await page.run(() => location.hash), "", "the address after an answer");
     await page.keeps(3);
     await page.browser.go(page.url + address);
-    await page.until(() => document.getElementById("asking").open);
-    holds((await page.text("asking-words")).includes("3 lines"), await page.text("asking-words"));
+    await page.asks("Show the shared play?", "Show it", "Keep mine");
+    same(await page.text("asking-words"), "It replaces your own play of this story, which has 3 lines.");
     await page.click("#asking-yes");
     await page.until(() => document.getElementById("told").textContent.includes("letter by letter"));
     await page.say("inventory");
@@ -404,7 +404,16 @@ async function badPlays(page) {
 
 async function badLink(page) {
     await page.fresh("#play=1abc");
-    holds((await page.told()).includes("can't be read"), await page.told());
+    const words = "The link can't be read: it is cut off, or this browser is too old for it.";
+    same(await page.told(), words);
+    await page.open(MENU);
+    await page.say("hello");
+    await page.keeps(1);
+    await page.browser.go(`${page.url}#play=1abc`);
+    await page.ready();
+    same(await page.told(), words);
+    same(await page.text("title"), "menu.z5", "the story after a link that is cut off");
+    holds((await page.text("log")).includes(">hello"), await page.text("log"));
 }
 
 async function box(page) {
@@ -547,6 +556,12 @@ async function restartAndSeed(page) {
     await page.fresh();
     await page.open(MENU);
     await page.say("roll");
+    await page.menu("restart");
+    await page.asks("Restart?", "Restart", "Go on");
+    same(await page.text("asking-words"), "The story starts over.");
+    await page.click("#asking-no");
+    await page.until(() => !document.querySelector("dialog[open]"));
+    same(await page.transcript(), native(["play", "--echo", MENU], "roll\n").text, "the transcript of a play that goes on");
     await seeded(page, "12");
     await page.say("roll");
     same(await page.transcript(), native(["play", "--echo", "--seed", "12", MENU], "roll\n").text, "the transcript");

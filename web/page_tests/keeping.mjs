@@ -128,6 +128,7 @@ async function forgets(page, isLasting) {
     await save(page, "second");
     same(await listedSaves(page), "second,first", "the saved games");
     await page.click("#slots li:first-child button:last-child");
+    await page.asks("Remove the saved game?", "Remove it", "Keep it");
     await page.click("#asking-no");
     await page.until(() => !document.getElementById("asking").open);
     same(await page.run(() => document.querySelectorAll("#slots li").length), 2, "the number of saved games that are kept");

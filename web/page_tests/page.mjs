@@ -117,6 +117,13 @@ export class Page {
         return this.until((name) => document.getElementById(name).getClientRects().length > 0, id);
     }
 
+    /** Waits until a question is asked, and looks whether it is this one, with these answers. */
+    async asks(head, yes, no) {
+        await this.shown("asking");
+        const words = await Promise.all(["head", "yes", "no"].map((part) => this.text(`asking-${part}`)));
+        same(words.join(" | "), [head, yes, no].join(" | "), "the question");
+    }
+
     /** Clicks by the mouse on the first element of a kind, once it is seen and nothing lies over it. */
     async click(selector) {
         await this.browser.mouse(...await this.until(placeInPage, selector));

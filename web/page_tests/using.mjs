@@ -149,6 +149,8 @@ async function endlessSaves(page) {
     };
     for (let i = 0; i < 3; i++)
         await refuseSave();
+    await page.asks("Go on?", "Go on", "Stop it");
+    same(await page.text("asking-words"), "The story keeps asking for saved games.");
     await page.click("#asking-yes");
     await refuseSave();
     await page.click("#asking-no");
@@ -225,6 +227,8 @@ async function continues(page) {
         await page.keeps(2);
         await page.open(Z5);
         await page.choose(MENU);
+        await page.asks("Continue?", "Continue where I was", "Start over");
+        same(await page.text("asking-words"), "You have played this story here before.");
         await page.click(`#${button}`);
         await page.until(() => document.getElementById("title").textContent === "menu.z5");
         await page.rests();
@@ -265,7 +269,7 @@ async function otherStory(page) {
     const words = `This is a play of menu.z5, 2 lines long. To see it, choose that story's file; its IFID is ${ifids[0]}.`;
     same(await page.text("invitation"), words);
     await page.choose(Z5);
-    await page.shown("asking");
+    await page.asks("Play a different story?", "Play it", "No");
     same(await page.text("asking-words"), `Its IFID is ${ifids[1]}, but that of the shared play is ${ifids[0]}.`);
     await page.click("#asking-no");
     same(await page.isShown("play"), false, "whether the other story is played");
