@@ -130,7 +130,7 @@ class Browser:
         child.stdin.flush()
         came: list[dict[str, Any]] = []
         while True:
-            came.append(self.answer(max(it[2] for it in cases) / 1000 + 30))
+            came.append(self.answer(5 * max(it[2] for it in cases) / 1000 + 30))
             if "end" in came[-1]:
                 return came[:-1]
             if came[-1]["name"] == "the browser":

@@ -8,6 +8,9 @@ import { CASES } from "./cases.mjs";
 import { Chromium } from "./chromium.mjs";
 import { LONGEST, Page } from "./page.mjs";
 
+/** What never comes is waited for once more, and so many times longer: a machine may have much else to do. */
+const LONGER = 4;
+
 const does = new Map(CASES);
 
 function tell(it) {
@@ -63,7 +66,11 @@ async function main() {
             LONGEST.wait = wait;
             browser.came.clear();
             const began = Date.now();
-            const refused = await refusalOf(browser, page, name, limit);
+            let refused = await refusalOf(browser, page, name, limit);
+            if (refused.startsWith("this never held")) {
+                LONGEST.wait = LONGER * wait;
+                refused = await refusalOf(browser, page, name, LONGER * limit);
+            }
             tell({ name, refused: refused.slice(0, 300), came: [...browser.came], ms: Date.now() - began });
             if (refused === "no end") {
                 await browser.close();
