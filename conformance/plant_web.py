@@ -37,11 +37,11 @@ KNOWN = FOLDER / "plants/survivors_web"
 QUICK = ("windows figures firstCharacters lastLines limits wordsOfReasons snapshotRefusals full worker blorbs examples "
          "seeds refusals")
 PARTS = {
-    "web/zkit.js": (QUICK, "inputs snapshots listings", "generated rows"),
-    "web/player.js": ("examples seeds inputs", "generated rows", "commands"),
+    "web/zkit.js": (QUICK, "snapshots rows", "listings"),
+    "web/player.js": ("examples seeds inputs", "rows commands"),
     "web/play.js": ("commands",),
 }
-ROWS, STORIES = 300, 100
+ROWS, STORIES = 200, 9
 # What else these tests look at, and how long a part may take, in seconds.
 LOOKED_AT = {"web/page/sums.js": "sums", "web/page/worker.js": "worker"}
 SECONDS = 60
@@ -155,7 +155,7 @@ class Worker:
         for name in ("dist", "include"):
             (folder / name).symlink_to(TOP / name)
         test = folder / "examples/curses/test"
-        test.write_text(test.read_text(encoding="utf-8").replace("seq 100", "seq 25"), encoding="utf-8")
+        test.write_text(test.read_text(encoding="utf-8").replace("seq 100", "seq 60"), encoding="utf-8")
 
     def prepare(self) -> None:
         """Makes what web/tests.js takes, once."""
