@@ -35,7 +35,7 @@ from sources import FOLDER, TOP
 KNOWN = FOLDER / "plants/survivors_web"
 # The tests of web/tests.js that come to a file, in parts that run one after another; of the rows, so many are played.
 QUICK = ("windows figures firstCharacters lastLines limits wordsOfReasons snapshotRefusals full worker blorbs examples "
-         "seeds refusals")
+         "refusedRequests refusedCalls seeds refusals")
 PARTS = {
     "web/zkit.js": (QUICK, "snapshots rows", "listings"),
     "web/player.js": ("examples seeds inputs", "rows commands"),

@@ -652,6 +652,64 @@ function full(module) {
     wantAllFree(module, first, "a full memory");
 }
 
+/** A module whose requests for memory are refused from one on: `refuse(0, call)` refuses all that a call makes. */
+function refusing(module) {
+    const { calls } = module;
+    let left = Infinity;
+    module.calls = { ...calls, zkit_take: (size) => (left-- > 0 ? calls.zkit_take(size) : 0n) };
+    return (count, call) => {
+        left = count;
+        try {
+            return call();
+        } finally {
+            left = Infinity;
+        }
+    };
+}
+
+/** Each request for memory of the calls that open is refused: they say so, and keep none. */
+function refusedRequests(module) {
+    const first = sizeOf(module);
+    const story = example("lighthouse.z5");
+    const file = blorb("ZCOD", story);
+    const { snapshot } = nextByModule(module, story, null, null);
+    const refuse = refusing(module);
+    const opens = [
+        [2, () => module.open(story)], [3, () => module.openSnapshot(story, snapshot)], [4, () => module.storyIn(file)],
+    ];
+    for (const [requests, open] of opens)
+        for (let count = 0; count < requests; count++) {
+            const { number, message } = refuse(count, () => refusalOf(open));
+            want(number === 6 && message === "out of memory", `${open}: request ${count} is refused`);
+            wantAllFree(module, first, `${open} with ${count} requests`);
+        }
+    const text = Buffer.from("Dear reader, this is no story at all.\n".repeat(9));
+    const { number, message } = refuse(2, () => refusalOf(() => module.open(text)));
+    want(number === 2 && message === "version 68 is not played", "a text whose words there is no memory for");
+    wantAllFree(module, first, "a text");
+}
+
+/** Calls of a game for which there is no memory leave it as it was. */
+function refusedCalls(module) {
+    const first = sizeOf(module);
+    const game = module.open(example("lighthouse.z5"));
+    const refuse = refusing(module);
+    const calls = game.calls;
+    game.calls = module.calls;
+    want(game.turn() === "line" && !refuse(0, () => game.line("save")), "a line is not given");
+    want(refuse(0, () => game.snapshot()) === null && game.snapshot() !== null, "a snapshot is not made");
+    want(game.line("save") && game.turn() === "save", "the story saves");
+    want(refuse(0, () => game.image()) === null, "a saved game is not made");
+    const image = game.image();
+    want(image !== null && game.saved(true) && game.turn() === "line", "it is saved");
+    want(game.line("restore") && game.turn() === "restore", "the story restores");
+    want(!refuse(0, () => game.restore(image)) && game.restore(image), "a saved game is not given, and then is");
+    want(game.turn() === "line", "the story goes on");
+    game.calls = calls;
+    game.close();
+    wantAllFree(module, first, "calls that are refused");
+}
+
 /** Plays a story by the module; one that is refused ends as the program does. */
 function mayBeRefused(module, story, options, input, keeps = true) {
     try {
@@ -710,8 +768,8 @@ async function worker() {
 async function main() {
     const tests = [
         rows, examples, windows, listings, refusals, wordsOfReasons, refusedFiles, limits, seeds, inputs, commands,
-        sums, figures, firstCharacters, lastLines, blorbs, snapshots, snapshotRefusals, thousand, large, full, worker,
-        generated,
+        sums, figures, firstCharacters, lastLines, blorbs, snapshots, snapshotRefusals, thousand, large, full,
+        refusedRequests, refusedCalls, worker, generated,
     ];
     for (const test of NAMES.length === 0 ? tests : NAMES.map((name) => tests.find((it) => it.name === name))) {
         const begin = performance.now();
