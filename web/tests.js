@@ -125,6 +125,9 @@ function gameOf(module, version) {
         const sliced = byModule(module, story, { room: 64 }, input, { slice: 1000 });
         want(same(sliced.shown, wanted), `${name}: ${text} in slices`);
     }
+    const refused = byModule(module, story, {}, Buffer.from("save\nlook\n"), { keeps: false });
+    const file = path.join(EXAMPLES, name);
+    want(same(refused.shown, run(["play", "--save", "/nowhere/x", file], "save\nlook\n").shown), `${name}, not saved`);
     const input = Buffer.from("restore\ninventory\nlook\n");
     const { shown } = byModule(module, story, {}, input, { saved: example(`${name}.dfrotz`) });
     want(shown.includes(">You have with you:\n  a letter\n  a postbag\n\n>Shore Path\n"), `${name}, saved by dfrotz`);
