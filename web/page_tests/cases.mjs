@@ -436,6 +436,11 @@ async function menu(page) {
     await page.until(() => document.getElementById("upper").textContent.includes("> Who made it"));
     await page.browser.press("Enter");
     await page.until(() => document.getElementById("log").textContent.includes("A test did."));
+    // keys that the browser takes for itself are not the story's
+    for (const key of [{ ctrlKey: true }, { metaKey: true }, { altKey: true }, { isComposing: true }])
+        await page.run((it) => !document.body.dispatchEvent(new KeyboardEvent("keydown", { key: "q", bubbles: true, ...it })), key);
+    await page.rests();
+    same(await page.text("asked"), "Press a key", "what is asked after keys of the browser");
     await page.browser.press("q");
     await page.until(() => document.getElementById("asked").textContent !== "Press a key");
     same((await page.text("upper")).trim(), "The hall" + " ".repeat(60) + "Turns: 0");

@@ -198,6 +198,16 @@ async function leftQuestion(page) {
     same(await page.transcript(), native(["play", "--echo", MENU], "roll\n").text, "the transcript of the other story");
 }
 
+/** A text is divided where a line ends, also where a line is longer than a part of the text. */
+async function longLines(page) {
+    await page.fresh();
+    const text = `${"x".repeat(7000)}\nsecond\nthird\n${"y".repeat(3000)}\n${"z".repeat(5000)}\nlast\n`;
+    await play(page, telling(`${text}>`), "lines.z5");
+    const parts = await page.run(() => [...document.querySelectorAll("#log .turn span.text")].map((it) => it.textContent));
+    same(parts.join(""), text, "the text");
+    holds(parts.length > 1 && parts.every((part) => part.endsWith("\n")), `${parts.map((part) => part.slice(-9)).join("|")}`);
+}
+
 /** While a file is dragged over the page, the page says where it may be dropped; no longer once it has gone. */
 async function draggedFile(page) {
     const outlined = () => page.run(() => document.body.classList.contains("dragged"));
@@ -330,7 +340,7 @@ async function strangePlays(page) {
         await page.until((words) => document.getElementById("told").textContent === words,
             `bad${i}.json: not a story: it is a text file`);
     }
-    const answers = ["look", 0x10ffff, 0, { saved: true }, { restored: null }, { restored: "AAAA" }, { undo: true }, { fresh: true }];
+    const answers = ["look", 0x10ffff, 0, { saved: true }, { restored: null }, { restored: "AA==" }, { undo: true }, { fresh: true }];
     const good = { name: "y".repeat(300), seed: "1".repeat(20), answers };
     await page.drop(Buffer.from(JSON.stringify({ ...play0, ...good })), "good.json");
     await page.until(() => document.getElementById("invitation").textContent.includes("yyy, 4 lines long"));
@@ -411,6 +421,8 @@ async function tabs(page) {
         same(await page.run(() => document.querySelector("[aria-selected=true]").id), `tab-${name}`, `the tab shown after ${key}`);
     }
     await page.until(() => document.getElementById("panel").getAttribute("aria-busy") === "false");
+    const names = await page.run(() => [...document.querySelectorAll("[role=tab]")].map((it) => it.textContent));
+    same(names.join(), "Check,Header,Map,Objects,Tree,Dictionary,Texts,Code", "the names of the tabs");
     const length = readFileSync(Z5).length;
     const lines = native(["info", "--map", Z5]).text.trimEnd().split("\n").slice(1);
     const starts = [...lines.map((line) => parseInt(line.slice(0, 5), 16)), length];
@@ -512,6 +524,7 @@ export const USING = [
     ["a story that saves without end", endlessSaves],
     ["a story that restores before it reads", restoresFirst],
     ["a question that is left for another story", leftQuestion],
+    ["lines that are longer than a part", longLines],
     ["a file that is dragged", draggedFile],
     ["a story that runs for long", longRun],
     ["a story that was played before", continues],
