@@ -602,6 +602,8 @@ async function inside(page, path) {
     for (const [name, words] of Object.entries(LISTINGS)) {
         await page.click(`#tab-${name}`);
         await page.until(() => document.getElementById("panel").getAttribute("aria-busy") === "false");
+        const about = await page.text("panel-words");
+        holds(/^[A-Z].*\.$/.test(about), `the words of ${name}: ${about}`);
         const wanted = listed(words, path);
         if (wanted)
             same(readFileSync(await page.fileAfter(() => page.click("#listing-out")), "utf8"), wanted, name);

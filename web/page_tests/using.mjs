@@ -423,6 +423,8 @@ async function tabs(page) {
     await page.until(() => document.getElementById("panel").getAttribute("aria-busy") === "false");
     const names = await page.run(() => [...document.querySelectorAll("[role=tab]")].map((it) => it.textContent));
     same(names.join(), "Check,Header,Map,Objects,Tree,Dictionary,Texts,Code", "the names of the tabs");
+    const controls = await page.run(() => [...document.querySelectorAll("[role=tab]")].map((it) => it.getAttribute("aria-controls")));
+    same([...new Set(controls)].join(), "panel", "what the tabs control");
     const length = readFileSync(Z5).length;
     const lines = native(["info", "--map", Z5]).text.trimEnd().split("\n").slice(1);
     const starts = [...lines.map((line) => parseInt(line.slice(0, 5), 16)), length];
