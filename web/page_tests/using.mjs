@@ -421,8 +421,8 @@ async function tabs(page) {
         same(await page.run(() => document.querySelector("[aria-selected=true]").id), `tab-${name}`, `the tab shown after ${key}`);
     }
     await page.until(() => document.getElementById("panel").getAttribute("aria-busy") === "false");
-    const names = await page.run(() => [...document.querySelectorAll("[role=tab]")].map((it) => it.textContent));
-    same(names.join(), "Check,Header,Map,Objects,Tree,Dictionary,Texts,Code", "the names of the tabs");
+    const tabNames = await page.run(() => [...document.querySelectorAll("[role=tab]")].map((it) => it.textContent));
+    same(tabNames.join(), "Check,Header,Map,Objects,Tree,Dictionary,Texts,Code", "the names of the tabs");
     const controls = await page.run(() => [...document.querySelectorAll("[role=tab]")].map((it) => it.getAttribute("aria-controls")));
     same([...new Set(controls)].join(), "panel", "what the tabs control");
     const length = readFileSync(Z5).length;
