@@ -362,8 +362,15 @@ function commands() {
         });
         want(came === wanted, `web/play.js ${words.join(" ")}: ${came.slice(0, 40)} for ${wanted.slice(0, 40)}`);
     }
-    for (const words of [[], ["--seed", "x", z5], ["--steps"], [z5, z5], ["--nothing", z5]])
-        want(spawnSync(process.execPath, [PLAY, ...words]).status === 1, `web/play.js ${words.join(" ")} is refused`);
+    const wrong = [
+        [], ["--seed", "x", z5], ["--steps"], [z5, z5], ["--nothing", z5], [z5, "--save"], [z5, "--seed"], [z5, "--steps"],
+        [z5, "--frames", "x"], [z5, "--words", "1x"], [z5, "--undo", "-1"], [z5, "12"],
+    ];
+    for (const words of wrong) {
+        const { status, stderr, stdout } = spawnSync(process.execPath, [PLAY, ...words]);
+        const isTold = String(stderr).startsWith("usage: web/play.js [--module FILE]") && String(stdout) === "";
+        want(status === 1 && isTold, `web/play.js ${words.join(" ")} is refused`);
+    }
 }
 
 /** SHA-256 of the page beside that of Node, about the ends of its blocks. */
