@@ -363,8 +363,8 @@ function commands() {
         want(came === wanted, `web/play.js ${words.join(" ")}: ${came.slice(0, 40)} for ${wanted.slice(0, 40)}`);
     }
     const wrong = [
-        [], ["--seed", "x", z5], ["--steps"], [z5, z5], ["--nothing", z5], [z5, "--save"], [z5, "--seed"], [z5, "--steps"],
-        [z5, "--frames", "x"], [z5, "--words", "1x"], [z5, "--undo", "-1"], [z5, "12"],
+        [], ["--seed", "x", z5], ["--steps"], [z5, z5], ["--nothing", z5], [z5, "--save"], [z5, "--seed"],
+        [z5, "--steps"], [z5, "--frames", "x"], [z5, "--words", "1x"], [z5, "--undo", "-1"], [z5, "12"],
     ];
     for (const words of wrong) {
         const { status, stderr, stdout } = spawnSync(process.execPath, [PLAY, ...words]);
