@@ -310,9 +310,12 @@ function inputs(module) {
         long(65_534, "\r\nlook\n"), long(65_535, "\r"),
         Buffer.concat([Buffer.from("\ufeff"), long(65_535, "\nlook\n")]),
     ];
+    const echo = telling(" ".repeat(9));
+    // read_char 1 -> global 0; print_char global 0; jump back to the first
+    echo.set([0xf6, 0x7f, 1, 0x10, 0xe5, 0xbf, 0x10, 0x8c, 0xff, 0xf8], 0x800);
     for (const [i, input] of all.entries()) {
         const z5 = example("lighthouse.z5");
-        for (const [name, story, before] of [["a line", z5, ""], ["keys", MENU, "menu\n"], ["both", MENU, ""]]) {
+        for (const [name, story, before] of [["a line", z5, ""], ["keys", echo, ""], ["both", MENU, "menu\n"]]) {
             const typed = Buffer.concat([Buffer.from(before), input]);
             wantSame(byModule(module, story, {}, typed), byProgram(story, [], typed), `input ${i} as ${name}`);
         }
@@ -321,6 +324,9 @@ function inputs(module) {
             want(same(came, wanted), `input ${i} in parts of ${size}`);
         }
     }
+    const short = { turn: () => "memory", textBytes: () => NONE, transcriptBytes: () => NONE };
+    const { status, told } = play(short, { lines: linesOf([]) });
+    want(status === 5 && told.join() === "zkit: out of memory", "a story without memory for its text");
     for (const byte of [0x61, 0xef, 0xbb]) {
         const typed = (function* () {
             yield Buffer.from([byte, 10]);

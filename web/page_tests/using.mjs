@@ -296,6 +296,26 @@ async function otherStory(page) {
     same(await page.transcript(), native(["play", Z5]).text, "the transcript of the other story");
 }
 
+/** A play that goes on from one's own takes its place at once; of another one the reader is asked. */
+async function ownPlayInIt(page) {
+    await page.fresh();
+    await page.open(MENU);
+    await page.say("roll");
+    await page.lines();
+    const file = JSON.parse(readFileSync(await page.fileAfter(() => page.click("#play-file"))));
+    await page.leave();
+    const give = (answers) => page.drop(Buffer.from(JSON.stringify({ ...file, answers })), "other.play.json");
+    await give(["rolls", "hello"]);
+    await page.asks("Show the shared play?", "Show it", "Keep mine");
+    await page.click("#asking-no");
+    await page.until(() => !document.querySelector("dialog[open]"));
+    same(await page.run(typedLines), "roll", "the lines of the play that was kept");
+    await give(["roll", "hello"]);
+    await page.until(() => document.querySelectorAll("#log .typed").length === 2);
+    await page.rests();
+    same(await page.run(typedLines), "roll,hello", "the lines of the play that goes on from there");
+}
+
 /** A link is offered up to 8,192 characters, and has only such as an address may have. */
 async function longestLink(page) {
     await page.fresh();
@@ -532,6 +552,7 @@ export const USING = [
     ["a story that was played before", continues],
     ["the twelve newest plays", twelvePlays],
     ["a play and another story", otherStory],
+    ["a play that goes on from one's own", ownPlayInIt],
     ["the longest link", longestLink],
     ["plays with one part that is none", strangePlays],
     ["seeds", seeds],
