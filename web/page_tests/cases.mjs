@@ -633,6 +633,8 @@ async function insideWorks(page) {
     await page.until(() => document.querySelector("#listing .fold"));
     await page.click("#listing .fold");
     await page.until(() => !document.getElementById("listing").textContent.includes("postbag"));
+    const focus = await page.run(() => [document.activeElement.className, document.activeElement.getAttribute("aria-expanded")]);
+    same(focus.join(), "fold,false", "where the focus is after a line was folded");
     await page.click("#listing .fold");
     await page.until(() => document.getElementById("listing").textContent.includes("postbag"));
     await page.click("#tab-dictionary");
