@@ -554,7 +554,8 @@ async function undoOfStory(page) {
     await page.until(() => document.querySelectorAll("#log .turn").length > 3);
     await page.rests();
     await page.say("look");
-    holds((await page.transcript()).includes("Jetty\nThe planks"), "the story is not where it was");
+    const text = await page.transcript();
+    holds(text.slice(text.lastIndexOf(">look")).startsWith(">look\nJetty\nThe planks"), "the story is not where it was");
 }
 
 async function restartAndSeed(page) {
@@ -586,8 +587,10 @@ async function settings(page) {
     });
     const before = await looks();
     await choose("theme", "dark");
+    const dark = await looks();
     await choose("size", "1.5");
     const after = await looks();
+    holds(dark !== before && after !== dark, `${before}, ${dark} and ${after} are not three looks`);
     await page.reload();
     await page.rests();
     same(await looks(), after, "how the page looks after a reload");
