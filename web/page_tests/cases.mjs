@@ -227,6 +227,11 @@ async function link(page) {
     for (const key of ["n", "Enter", "q"]) {
         await page.browser.press(key);
         await page.rests();
+        if (key === "n") {
+            await page.keeps(5);
+            await page.reload();
+            await page.rests();
+        }
     }
     await page.say("roll");
     const text = await page.transcript();
@@ -623,6 +628,15 @@ async function inside(page, path) {
     }
 }
 
+/** The lines of a tree without those below the first one that has some below it. */
+function withoutFirst(tree) {
+    const lines = tree.split("\n").slice(0, -1);
+    const depths = lines.map((line) => line.search(/\S/));
+    const first = depths.findIndex((depth, i) => depths[i + 1] > depth);
+    const end = depths.findIndex((depth, i) => i > first && depth <= depths[first]);
+    return joined(lines.filter((_, i) => i <= first || end >= 0 && i >= end));
+}
+
 async function insideWorks(page) {
     await page.fresh();
     await page.open(z(5));
@@ -632,12 +646,16 @@ async function insideWorks(page) {
     await page.until(() => document.querySelectorAll(".scale i").length === 8);
     const widths = await page.run(() => [...document.querySelectorAll(".scale i")].map((it) => parseFloat(it.style.width)));
     holds(Math.abs(widths.reduce((sum, it) => sum + it, 0) - 100) < 0.01, `the bar is ${widths}`);
+    const colours = await page.run(() => [...document.querySelectorAll(".scale i")].map((it) => getComputedStyle(it).backgroundColor));
+    same(new Set(colours).size, 8, "the number of colours of the bar");
     await page.click("#tab-tree");
     await page.until(() => document.querySelector("#listing .fold"));
     await page.click("#listing .fold");
     await page.until(() => !document.getElementById("listing").textContent.includes("postbag"));
     const focus = await page.run(() => [document.activeElement.className, document.activeElement.getAttribute("aria-expanded")]);
     same(focus.join(), "fold,false", "where the focus is after a line was folded");
+    const rows = await page.run(() => [...document.querySelectorAll("#listing .row-line")].map((it) => it.textContent).join(""));
+    same(rows, withoutFirst(listed(["info", "--tree"], z(5))), "the tree without what is in its first line");
     await page.click("#listing .fold");
     await page.until(() => document.getElementById("listing").textContent.includes("postbag"));
     await page.click("#tab-dictionary");
