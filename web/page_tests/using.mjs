@@ -3,7 +3,7 @@
 import { randomBytes } from "node:crypto";
 import { writeFileSync } from "node:fs";
 import { EXAMPLES, MENU, ROOT, basename, holds, join, native, readFileSync, same } from "./page.mjs";
-import { asking, counting, restoring, telling, tellingStatus } from "./stories.mjs";
+import { asking, counting, repeating, restoring, telling, tellingStatus } from "./stories.mjs";
 
 const Z5 = join(EXAMPLES, "lighthouse.z5");
 
@@ -206,6 +206,21 @@ async function longLines(page) {
     const parts = await page.run(() => [...document.querySelectorAll("#log .turn span.text")].map((it) => it.textContent));
     same(parts.join(""), text, "the text");
     holds(parts.length > 1 && parts.every((part) => part.endsWith("\n")), `${parts.map((part) => part.slice(-9)).join("|")}`);
+}
+
+/** What an answer brings is read from its start: the line that was typed is seen, and not the end of a long text. */
+async function startOfAnswer(page) {
+    await page.fresh();
+    await play(page, repeating("On and on it goes.\n", 99), "long.z5");
+    await page.say("further");
+    const [top, bottom, line, left] = await page.run(() => {
+        const scroller = document.getElementById("scroller");
+        const around = scroller.getBoundingClientRect();
+        const typed = document.querySelector("#log .typed").getBoundingClientRect();
+        return [around.top, around.bottom, typed.top, scroller.scrollHeight - scroller.clientHeight - scroller.scrollTop];
+    });
+    holds(line >= top && line < top + (bottom - top) / 4, `the line is at ${line} between ${top} and ${bottom}`);
+    holds(left > 100, `${left} pixels are left to read`);
 }
 
 /** While a file is dragged over the page, the page says where it may be dropped; no longer once it has gone. */
@@ -547,6 +562,7 @@ export const USING = [
     ["a story that restores before it reads", restoresFirst],
     ["a question that is left for another story", leftQuestion],
     ["lines that are longer than a part", longLines],
+    ["an answer is read from its start", startOfAnswer],
     ["a file that is dragged", draggedFile],
     ["a story that runs for long", longRun],
     ["a story that was played before", continues],
