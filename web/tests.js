@@ -159,6 +159,9 @@ function windows(module) {
     want(game.story().version === 3 && game.story().serial === "261122" && game.longestLine() > 20, "its story");
     want(!game.character(65) && game.image() === null && game.words() + game.lastLine() === "", "it awaits a line");
     game.close();
+    const narrow = module.open(example("lighthouse.z5"), { room: 64 });
+    want(narrow.turn() === "room" && narrow.textBytes().length >= 64, "a story that awaits room for its text");
+    narrow.close();
     want(module.version() === 0x000100, "the version");
 }
 
@@ -243,7 +246,8 @@ function wordsOfReasons(module) {
     want(module.wordsOfRefusal(2, story, buffer) === "version 5 is not played", "the words of reason 2");
     module.calls.zkit_give(buffer);
     const options = { frames: 0 };
-    want(refusalOf(() => module.open(story, options)).message === words[7], "the words of a limit out of its range");
+    const refused = refusalOf(() => module.open(story, options));
+    want(refused.message === words[7] && refused.name === "Refused", "the words of a limit out of its range");
     want(refusalOf(() => module.openSnapshot(story, story)).message === words[8], "the words of what is no snapshot");
 }
 
