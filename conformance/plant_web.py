@@ -68,14 +68,20 @@ def path_of(plant: Plant) -> str:
 
 def run(words: Iterable[object], folder: pathlib.Path, seconds: float = SECONDS) -> tuple[int, str]:
     """Runs a command with all that it begins, and answers its status and what it says; -1 where it has no end."""
-    with subprocess.Popen([str(it) for it in words], cwd=folder, stdin=subprocess.DEVNULL, stdout=subprocess.PIPE,
-                          stderr=subprocess.STDOUT, text=True, errors="replace", start_new_session=True) as child:
+    with subprocess.Popen([str(it) for it in words], cwd=folder, env=within(folder), stdin=subprocess.DEVNULL,
+                          stdout=subprocess.PIPE, stderr=subprocess.STDOUT, text=True, errors="replace",
+                          start_new_session=True) as child:
         try:
             said, _ = child.communicate(timeout=seconds)
         except subprocess.TimeoutExpired:
             os.killpg(child.pid, signal.SIGKILL)
             return -1, ""
     return child.returncode, said
+
+
+def within(folder: pathlib.Path) -> dict[str, str]:
+    """The environment of a program that leaves what it makes for a while in a folder, if that is not the sources'."""
+    return {**os.environ, **({} if folder == TOP else {"TMPDIR": str(folder)})}
 
 
 def refused(kind: str, status: int, said: str) -> Optional[Outcome]:
@@ -91,7 +97,8 @@ def refused(kind: str, status: int, said: str) -> Optional[Outcome]:
 class Browser:
     """The tests of the page in a browser, for one page after another."""
 
-    def __init__(self) -> None:
+    def __init__(self, folder: pathlib.Path) -> None:
+        self.folder = folder
         self.child: Optional[subprocess.Popen[str]] = None
         self.lines: queue.Queue[str] = queue.Queue()
 
@@ -99,8 +106,8 @@ class Browser:
         """Begins the browser, if it does not run."""
         if not self.child:
             words = ["node", str(TOP / "web/page_tests/plants.mjs")]
-            self.child = subprocess.Popen(words, stdin=subprocess.PIPE, stdout=subprocess.PIPE, text=True,
-                                          stderr=subprocess.DEVNULL, start_new_session=True)
+            self.child = subprocess.Popen(words, env=within(self.folder), stdin=subprocess.PIPE, stdout=subprocess.PIPE,
+                                          stderr=subprocess.DEVNULL, text=True, start_new_session=True)
             self.lines = queue.Queue()
             threading.Thread(target=hear, args=(self.child.stdout, self.lines), daemon=True).start()
             self.answer(60)
@@ -149,7 +156,7 @@ class Worker:
     """A copy of what the tests take, in which plants are tried one after another."""
 
     def __init__(self, folder: pathlib.Path) -> None:
-        self.folder, self.room, self.browser = folder, folder / "room", Browser()
+        self.folder, self.room, self.browser = folder, folder / "room", Browser(folder)
         for name in ("web", "examples", "conformance"):
             shutil.copytree(TOP / name, folder / name, symlinks=True)
         for name in ("dist", "include"):
@@ -181,6 +188,14 @@ class Worker:
         """Runs the tests of the module's memory."""
         status, said = run([self.folder / "heap_test"], self.folder, 20)
         return refused("heap_test", status, said)
+
+    def by_example(self, file: str) -> Optional[Outcome]:
+        """Runs the test of an example. A terminal that this leaves where it has no end is ended."""
+        test, *words = {"screen.c": ["curses/test"], "play.c": ["embed/test", "--play"]}[file]
+        came = run([self.folder / "examples" / test, *words], self.folder, 25)
+        for socket in self.folder.glob("tmp.*/socket*"):
+            run(["tmux", "-S", socket, "kill-server"], self.folder)
+        return refused(test, *came)
 
     def page(self) -> pathlib.Path:
         """Makes the page of this copy."""
@@ -226,8 +241,7 @@ class Worker:
         if path == "web/heap.c":
             return self.by_heap_test()
         if path.startswith("examples/"):
-            test, *words = {"screen.c": ["curses/test"], "play.c": ["embed/test", "--play"]}[pathlib.Path(path).name]
-            return refused(test, *run([self.folder / "examples" / test, *words], self.folder, 25))
+            return self.by_example(pathlib.Path(path).name)
         outcome = self.by_node(LOOKED_AT[path]) if path in LOOKED_AT else None
         return outcome or self.by_page(plant, cases, most)
 
