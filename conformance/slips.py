@@ -1,19 +1,20 @@
 """The slips that `plant.py` puts into code, by rules: what a line, a list, a match, a loop or a statement may lack.
 
 A rule takes the lines of a function's body or of a constant. It reads them without their texts, comments and clauses.
+`planting_web.py` has the rules that are JavaScript's and C's own, and takes the others from here.
 """
 
 from __future__ import annotations
 
 import re
-from collections.abc import Callable, Iterator
+from collections.abc import Callable, Iterable, Iterator
 from typing import NamedTuple
 
 LITERAL = re.compile(r'b?"(?:[^"\\]|\\.)*"' + r"|b?'(?:[^'\\]|\\[^']+)'|//.*")
 NOT_CODE = re.compile(r"\s*(?:(?:ghost|requires|ensures|invariant|decreases|use)\b|#!?\[)")
-NUMBER = re.compile(r"(?<!\w)(?<!(?<!\.)\.)(0x[0-9A-Fa-f_]+|\d[\d_]*)(?=\W|$|[ui]\d|usize)(?!\.\d)")
+NUMBER = re.compile(r"(?<!\w)(?<!(?<!\.)\.)(0x[0-9A-Fa-f_]+|\d[\d_]*)(?=\W|$|[ui]\d|usize|n\b)(?!\.\d)")
 # What may stand for another text in a line: the rule, what is looked for, and what comes in its place.
-SWAPS = (
+COMMON_SWAPS = (
     ("comparison", r"(?<= )<(?= )", "<="),
     ("comparison", r"(?<= )<=(?= )", "<"),
     ("comparison", r"(?<= )>(?= )", ">="),
@@ -21,16 +22,19 @@ SWAPS = (
     ("comparison", r"(?<= )==(?= )", "!="),
     ("comparison", r"(?<= )!=(?= )", "=="),
     ("bound", r" [+-] 1\b", ""),
-    ("bound", r"\.saturating_(?:sub|add)\(1\)", ""),
-    ("bound", r"\.\.=", ".."),
-    ("bound", r"(?<=[\w)\]])\.\.(?=[\w(])", "..="),
     ("logic", r"&&(?= )", "||"),
-    ("logic", r"(?<= )\|\|(?= \w)", "&&"),
     ("logic", r"(?<![\w!=])!(?=[\w(])", ""),
     ("logic", r"\btrue\b", "false"),
     ("logic", r"\bfalse\b", "true"),
     ("order", r"\.max\(", ".min("),
     ("order", r"\.min\(", ".max("),
+)
+SWAPS = (
+    *COMMON_SWAPS,
+    ("bound", r"\.saturating_(?:sub|add)\(1\)", ""),
+    ("bound", r"\.\.=", ".."),
+    ("bound", r"(?<=[\w)\]])\.\.(?=[\w(])", "..="),
+    ("logic", r"(?<= )\|\|(?= \w)", "&&"),
     ("order", r"\.rev\(\)", ""),
     ("order", r"\.first\(\)", ".last()"),
     ("order", r"\.last\(\)", ".first()"),
@@ -95,12 +99,17 @@ def without(rule: str, lines: list[str], begin: int, end: int) -> Slip:
 # Within a line.
 
 
-def swaps(lines: list[str], code: list[str]) -> Iterator[Slip]:
-    """What stands in a line, for another."""
+def swapped(table: Iterable[tuple[str, str, str]], lines: list[str], code: list[str]) -> Iterator[Slip]:
+    """What stands in a line, for another, as a table has it."""
     for at, line in enumerate(code):
-        for rule, pattern, new in SWAPS:
+        for rule, pattern, new in table:
             for found in re.finditer(pattern, line):
                 yield within(rule, lines, at, found.start(), found.end(), new)
+
+
+def swaps(lines: list[str], code: list[str]) -> Iterator[Slip]:
+    """What stands in a line, for another."""
+    yield from swapped(SWAPS, lines, code)
 
 
 def numbers(lines: list[str], code: list[str]) -> Iterator[Slip]:
@@ -118,12 +127,18 @@ def words(lines: list[str], code: list[str]) -> Iterator[Slip]:
     """A text with another last word, of the same length."""
     for at, line in enumerate(lines):
         for found in LITERAL.finditer(line) if code[at].strip() else ():
-            inside = found[0].lstrip("b")[1:]
-            inside = re.sub(r"\\.|\{[^}]*\}", lambda it: " " * len(it[0]), inside)
-            last = list(re.finditer(r"\w+", inside)) or list(re.finditer(r"[^\w\s\"']", inside))
-            if last and not found[0].startswith("//"):
-                begin = found.end() - len(inside) + last[-1].start()
-                yield within("word", lines, at, begin, begin + 1, "y" if line[begin] == "x" else "x")
+            if not found[0].startswith("//"):
+                front = len(found[0]) - len(found[0].lstrip("b"))
+                yield from other_word(lines, at, found.start() + front + 1, found.end())
+
+
+def other_word(lines: list[str], at: int, begin: int, end: int) -> Iterator[Slip]:
+    """Another last word in the text of a line that begins and ends there; its last sign is the quote."""
+    inside = re.sub(r"\\.|\{[^}]*\}", lambda it: " " * len(it[0]), lines[at][begin:end])
+    last = list(re.finditer(r"\w+", inside)) or list(re.finditer(r"[^\w\s\"'`]", inside))
+    if last:
+        place = begin + last[-1].start()
+        yield within("word", lines, at, place, place + 1, "y" if lines[at][place] == "x" else "x")
 
 
 def options(lines: list[str], code: list[str]) -> Iterator[Slip]:
@@ -254,7 +269,7 @@ def leaves_some_out(slip: Slip, lines: list[str], code: list[str]) -> bool:
 # Statements.
 
 
-def statements(code: list[str]) -> Iterator[tuple[int, int]]:
+def statements(code: list[str], call: re.Pattern[str] = CALL) -> Iterator[tuple[int, int]]:
     """Where statements begin and end that are calls, assignments, or blocks of which nothing is taken."""
     for at, line in enumerate(code):
         text, to = line.strip(), last_of(code, at)
@@ -262,7 +277,7 @@ def statements(code: list[str]) -> Iterator[tuple[int, int]]:
         if re.match(r"(?:if|for|while) .*\{$", text):
             if last == " " * indent(line) + "}":
                 yield at, to + 1
-        elif last.endswith(";") and indent(last) == indent(line) and CALL.match(text):
+        elif last.endswith(";") and indent(last) == indent(line) and call.match(text):
             yield at, to + 1
 
 
@@ -272,9 +287,9 @@ def effects(lines: list[str], code: list[str]) -> Iterator[Slip]:
         yield without("effect", lines, begin, end)
 
 
-def orders(lines: list[str], code: list[str]) -> Iterator[Slip]:
+def orders(lines: list[str], code: list[str], call: re.Pattern[str] = CALL) -> Iterator[Slip]:
     """Two calls, each in the other's place."""
-    found = [it for it in statements(code) if "(" in code[it[0]] and not code[it[0]].endswith("{")]
+    found = [it for it in statements(code, call) if "(" in code[it[0]] and not code[it[0]].endswith("{")]
     for (begin, middle), (other, end) in zip(found, found[1:]):
         if middle == other and indent(code[begin]) == indent(code[other]):
             swapped = lines[other:end] + lines[begin:middle]

@@ -6,21 +6,24 @@
 #include <stdlib.h>
 #include <string.h>
 
-#define __builtin_wasm_memory_size(memory) memory_size()
-#define __builtin_wasm_memory_grow(memory, pages) memory_grow(pages)
+#define __builtin_wasm_memory_size(number) memory_size(number)
+#define __builtin_wasm_memory_grow(number, pages) memory_grow(number, pages)
 
 enum { MOST_PAGES = 1024, FIRST_PAGES = 18 };
 
 static unsigned char *memory;
 static size_t pages_there;
 
-static size_t memory_size(void) {
+/* The module has one memory, whose number is 0. */
+static size_t memory_size(int number) {
+    if (number != 0)
+        abort();
     return (size_t)memory / 65536 + pages_there;
 }
 
 /* As the lowered module has it: what fails answers the low half of -1. */
-static size_t memory_grow(size_t pages) {
-    size_t before = memory_size();
+static size_t memory_grow(int number, size_t pages) {
+    size_t before = memory_size(number);
     if (pages > MOST_PAGES - pages_there)
         return 0xffffffff;
     pages_there += pages;
@@ -234,6 +237,47 @@ static void growing(void) {
     look_at_one_free();
 }
 
+/* The memory grows by the pages that a block lacks, less what is free at its end, and by nothing else. */
+static void grows_by(size_t size, size_t pages) {
+    size_t there = pages_there;
+    void *at = zkit_take(size);
+    want(at != NULL && pages_there == there + pages, "the memory grows by the pages that a block lacks");
+    zkit_give(at);
+}
+
+static void exact_growth(void) {
+    size_t free_pages = look_at_free() / PAGE;
+    void *low = zkit_take((free_pages - 2) * PAGE), *high = zkit_take(2 * PAGE - 2 * UNIT);
+    want(!free_blocks.next, "both take all that is free");
+    zkit_give(low);
+    grows_by((free_pages + 20) * PAGE - UNIT, free_pages + 20);
+    zkit_give(high);
+    look_at_one_free();
+}
+
+/* Where no memory is left, a block may still keep its size or shrink: it stays where it is. */
+static void shrinking(void) {
+    struct rattle_block block = rattle_alloc(1000, 1);
+    void *rest[99];
+    size_t count = 0, size = 32 << 20;
+    while ((rest[count] = zkit_take(size)) != NULL || size > 0)
+        if (rest[count])
+            count++;
+        else
+            size /= 2;
+    want(!free_blocks.next, "all memory is taken");
+    static const size_t sizes[] = {1000, 1001, 1008, 500, 1, 0};
+    for (size_t i = 0; i < sizeof sizes / sizeof sizes[0]; i++) {
+        struct rattle_block same = rattle_realloc(block.at, 1 < sizes[i] ? 1 : sizes[i], sizes[i], 16);
+        want(same.is_there && same.at == block.at, "a block that gets no larger stays where it is");
+    }
+    want(!rattle_realloc(block.at, 0, 2000, 1).is_there, "one that gets larger is refused where no memory is left");
+    rattle_dealloc(block.at);
+    while (count > 0)
+        zkit_give(rest[--count]);
+    look_at_one_free();
+}
+
 /* The memory grows seldom, and by no more than has to be there. */
 static void first_blocks(void) {
     rattle_dealloc(rattle_alloc(1, 1).at);
@@ -241,6 +285,7 @@ static void first_blocks(void) {
     void *all = zkit_take((size_t)LEAST_PAGES * PAGE - UNIT);
     want(all != NULL && pages_there == FIRST_PAGES + LEAST_PAGES, "a block takes all that is free");
     zkit_give(all);
+    exact_growth();
     zkit_give(zkit_take(40 << 20));
     void *more = zkit_take(60 << 20);
     want(more != NULL, "what is free at the end is counted where the memory grows");
@@ -258,6 +303,7 @@ int main(void) {
     growing();
     random_rounds();
     other_sizes();
+    shrinking();
     random_rounds();
     free(memory);
     puts("heap_test: all is as it should be");

@@ -27,6 +27,10 @@ const READ_FAILED = 4;
 const OUT_OF_MEMORY = 5;
 const NEW_LINE = 10;
 const RETURN = 13;
+const QUESTION_MARK = 63;
+
+/** The byte order mark, which some editors write at the start of a file. */
+const MARK = [0xef, 0xbb, 0xbf];
 
 /** A line of the input has too many bytes. */
 class TooLong extends Error {}
@@ -43,14 +47,45 @@ function joined(one, other) {
 }
 
 /**
+ * A line without a return at its end. It counts for the length of a line: one that is too long with it keeps it.
+ * @param {Uint8Array} line
+ */
+function withoutReturn(line) {
+    const hasReturn = line[line.length - 1] === RETURN && line.length <= LONGEST_LINE;
+    return hasReturn ? line.subarray(0, line.length - 1) : line;
+}
+
+/**
  * The lines of bytes that have an end. A return before it is none of a line. Answers the bytes after the last end.
  * @param {Uint8Array} bytes
  */
 function* wholeLines(bytes) {
     let begin = 0;
     for (let end; (end = bytes.indexOf(NEW_LINE, begin)) >= 0; begin = end + 1)
-        yield bytes.subarray(begin, end > begin && bytes[end - 1] === RETURN ? end - 1 : end);
+        yield withoutReturn(bytes.subarray(begin, end));
     return bytes.subarray(begin);
+}
+
+/**
+ * The parts of an input without the byte order mark that this may begin with.
+ * @param {Iterable<Uint8Array>} parts
+ */
+function* unmarked(parts) {
+    /** @type {Uint8Array | null} */
+    let front = new Uint8Array(0);
+    for (const part of parts) {
+        const bytes = front ? joined(front, part) : part;
+        const hasMark = MARK.every((byte, i) => bytes[i] === byte);
+        const mayHave = bytes.length < MARK.length && bytes.every((byte, i) => byte === MARK[i]);
+        if (front && mayHave) {
+            front = bytes;
+        } else {
+            yield front && hasMark ? bytes.subarray(MARK.length) : bytes;
+            front = null;
+        }
+    }
+    if (front)
+        yield front;
 }
 
 /**
@@ -59,19 +94,20 @@ function* wholeLines(bytes) {
  */
 export function* linesOf(parts) {
     let rest = new Uint8Array(0);
-    for (const part of parts)
+    for (const part of unmarked(parts))
         rest = yield* wholeLines(joined(rest, part));
     if (rest.length > 0)
         yield rest;
 }
 
 /**
- * The number of a line's first character, and that of a new line where it has none.
+ * The number of a line's first character, and that of a new line where it has none. A return that does not end a line
+ * has no code, and is a question mark like all that has none.
  * @param {Uint8Array} line
  */
 function firstCharacter(line) {
     const text = new TextDecoder("utf-8", { ignoreBOM: true }).decode(line.subarray(0, 4));
-    return text.codePointAt(0) ?? NEW_LINE;
+    return line[0] === RETURN ? QUESTION_MARK : text.codePointAt(0) ?? NEW_LINE;
 }
 
 /**

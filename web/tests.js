@@ -2,10 +2,11 @@
 // Tests of zkit.wasm in Node, beside the program. web/test makes what they take, and runs them.
 // SPDX-License-Identifier: MIT OR Apache-2.0
 //
-// usage: web/tests.js MODULE PROGRAM FOLDER COUNT
+// usage: web/tests.js MODULE PROGRAM FOLDER COUNT [TEST]...
 //
 // FOLDER has what conformance/run.py --write and generated.py with COUNT write, the stories of
-// examples/embed/large.cases and, where there is a C compiler, the program kept.
+// examples/embed/large.cases and, where there is a C compiler, the program kept. Where tests are named, these are run
+// in that order, up to the first check that fails.
 import { spawnSync } from "child_process";
 import { createHash } from "crypto";
 import fs from "fs";
@@ -16,7 +17,7 @@ import { telling, tellingStatus } from "./page_tests/stories.mjs";
 import { linesOf, play } from "./player.js";
 import { LISTINGS, Module, Refused } from "./zkit.js";
 
-const [MODULE, PROGRAM, FOLDER, COUNT] = process.argv.slice(2);
+const [MODULE, PROGRAM, FOLDER, COUNT, ...NAMES] = process.argv.slice(2);
 const EXAMPLES = fileURLToPath(new URL("../examples", import.meta.url));
 const PLAY = fileURLToPath(new URL("play.js", import.meta.url));
 const MENU = fs.readFileSync(new URL("page_tests/menu.z5", import.meta.url));
@@ -40,6 +41,8 @@ function want(holds, what) {
         return;
     bad++;
     process.stderr.write(`differs: ${what}\n`);
+    if (NAMES.length > 0)
+        process.exit(1);
 }
 
 const same = (one, other) => Buffer.compare(one, other) === 0;
@@ -122,6 +125,9 @@ function gameOf(module, version) {
         const sliced = byModule(module, story, { room: 64 }, input, { slice: 1000 });
         want(same(sliced.shown, wanted), `${name}: ${text} in slices`);
     }
+    const refused = byModule(module, story, {}, Buffer.from("save\nlook\n"), { keeps: false });
+    const file = path.join(EXAMPLES, name);
+    want(same(refused.shown, run(["play", "--save", "/nowhere/x", file], "save\nlook\n").shown), `${name}, not saved`);
     const input = Buffer.from("restore\ninventory\nlook\n");
     const { shown } = byModule(module, story, {}, input, { saved: example(`${name}.dfrotz`) });
     want(shown.includes(">You have with you:\n  a letter\n  a postbag\n\n>Shore Path\n"), `${name}, saved by dfrotz`);
@@ -141,6 +147,7 @@ function examples(module) {
 /** What is drawn beside the text. */
 function windows(module) {
     const box = module.open(example("box.z5"));
+    want(box.turn(1) === "time", "a turn of one instruction");
     want(box.turn() === "line" && box.window().height === 1 && box.window().tallest > 4, "the box: its height");
     want(box.tallestRows().some((row) => row.includes("Through me the way into the city")), "the box: its text");
     want(box.rows().join() === " The gate".padEnd(69) + "Turns: 0", "the box: the row that is left");
@@ -152,6 +159,9 @@ function windows(module) {
     want(game.story().version === 3 && game.story().serial === "261122" && game.longestLine() > 20, "its story");
     want(!game.character(65) && game.image() === null && game.words() + game.lastLine() === "", "it awaits a line");
     game.close();
+    const narrow = module.open(example("lighthouse.z5"), { room: 64 });
+    want(narrow.turn() === "room" && narrow.textBytes().length >= 64, "a story that awaits room for its text");
+    narrow.close();
     want(module.version() === 0x000100, "the version");
 }
 
@@ -236,7 +246,8 @@ function wordsOfReasons(module) {
     want(module.wordsOfRefusal(2, story, buffer) === "version 5 is not played", "the words of reason 2");
     module.calls.zkit_give(buffer);
     const options = { frames: 0 };
-    want(refusalOf(() => module.open(story, options)).message === words[7], "the words of a limit out of its range");
+    const refused = refusalOf(() => module.open(story, options));
+    want(refused.message === words[7] && refused.name === "Refused", "the words of a limit out of its range");
     want(refusalOf(() => module.openSnapshot(story, story)).message === words[8], "the words of what is no snapshot");
 }
 
@@ -293,14 +304,22 @@ function inputs(module) {
     const long = (length, rest = "") => Buffer.from("x".repeat(length) + rest);
     const lines = [
         "look\r\ninventory\r\n", "look\n\n\r\nlook", "look\r\r\n", "\xe4\xf6\n\xff\n", "look\tx\n\0\n",
-        "\u{1F600}\n",
+        "\u{1F600}\n", "\rq\nq\n", "\r", "\r\r\nq\n", "q\r", "\ufeffroll\nq\n", "\ufeff", "\ufeff\r\nq\n",
+        "\ufeff\ufeffroll\n", "roll\n\ufeffroll\n", "q\n\ufeffq\nq\n", "\ufeff\ufeff\nq\n",
     ];
+    const marks = [[0xef], [0xef, 0xbb], [0xef, 0xbb, 10, 0xbf, 10], [0xef, 0xef, 0xbb, 0xbf, 10, 113, 10], [0xbb, 10]];
     const all = [
-        NONE, ...lines.map((text) => Buffer.from(text)), ...lines.map((text) => Buffer.from(text, "latin1")),
-        long(65_535), long(65_536), long(65_535, "\nlook\n"), long(70_000),
+        NONE, ...[...marks, ...lines].map((it) => Buffer.from(it)), ...lines.map((text) => Buffer.from(text, "latin1")),
+        long(65_535), long(65_536), long(65_535, "\nlook\n"), long(70_000), long(65_535, "\r\nlook\n"),
+        long(65_534, "\r\nlook\n"), long(65_535, "\r"),
+        Buffer.concat([Buffer.from("\ufeff"), long(65_535, "\nlook\n")]),
     ];
+    const echo = telling(" ".repeat(9));
+    // read_char 1 -> global 0; print_char global 0; jump back to the first
+    echo.set([0xf6, 0x7f, 1, 0x10, 0xe5, 0xbf, 0x10, 0x8c, 0xff, 0xf8], 0x800);
     for (const [i, input] of all.entries()) {
-        for (const [name, story, before] of [["a line", example("lighthouse.z5"), ""], ["keys", MENU, "menu\n"]]) {
+        const z5 = example("lighthouse.z5");
+        for (const [name, story, before] of [["a line", z5, ""], ["keys", echo, ""], ["both", MENU, "menu\n"]]) {
             const typed = Buffer.concat([Buffer.from(before), input]);
             wantSame(byModule(module, story, {}, typed), byProgram(story, [], typed), `input ${i} as ${name}`);
         }
@@ -308,6 +327,16 @@ function inputs(module) {
             const [came, wanted] = [parts(input, size), [input]].map((it) => Buffer.concat([...linesOf(it)]));
             want(same(came, wanted), `input ${i} in parts of ${size}`);
         }
+    }
+    const short = { turn: () => "memory", textBytes: () => NONE, transcriptBytes: () => NONE };
+    const { status, told } = play(short, { lines: linesOf([]) });
+    want(status === 5 && told.join() === "zkit: out of memory", "a story without memory for its text");
+    for (const byte of [0x61, 0xef, 0xbb]) {
+        const typed = (function* () {
+            yield Buffer.from([byte, 10]);
+            want(false, `the line of the byte ${byte} is there before the next one is typed`);
+        })();
+        want(linesOf(typed).next().value[0] === byte, `a line of the byte ${byte}`);
     }
 }
 
@@ -343,8 +372,15 @@ function commands() {
         });
         want(came === wanted, `web/play.js ${words.join(" ")}: ${came.slice(0, 40)} for ${wanted.slice(0, 40)}`);
     }
-    for (const words of [[], ["--seed", "x", z5], ["--steps"], [z5, z5], ["--nothing", z5]])
-        want(spawnSync(process.execPath, [PLAY, ...words]).status === 1, `web/play.js ${words.join(" ")} is refused`);
+    const wrong = [
+        [], ["--seed", "x", z5], ["--steps"], [z5, z5], ["--nothing", z5], [z5, "--save"], [z5, "--seed"],
+        [z5, "--steps"], [z5, "--frames", "x"], [z5, "--words", "1x"], [z5, "--undo", "-1"], [z5, "12"],
+    ];
+    for (const words of wrong) {
+        const { status, stderr, stdout } = spawnSync(process.execPath, [PLAY, ...words]);
+        const isTold = String(stderr).startsWith("usage: web/play.js [--module FILE]") && String(stdout) === "";
+        want(status === 1 && isTold, `web/play.js ${words.join(" ")} is refused`);
+    }
 }
 
 /** SHA-256 of the page beside that of Node, about the ends of its blocks. */
@@ -385,6 +421,29 @@ function figures(module) {
     game.close();
 }
 
+/** The last line of a story that has stopped for lack of memory or by too much text, as zkit.h numbers these. */
+function lastLines(module) {
+    const game = module.open(example("hello.z3"));
+    const most = "zkit: an instruction shows more text than there may be";
+    for (const [status, line] of [[0, ""], [1, ""], [5, "zkit: out of memory"], [6, most]]) {
+        game.status = () => status;
+        want(game.lastLine() === line, `the last line of status ${status}`);
+    }
+    game.close();
+}
+
+/** A text that begins with U+FEFF keeps it: it is a character like others there. */
+function firstCharacters(module) {
+    const story = telling(" ".repeat(9));
+    story[17] |= 1;
+    // print_unicode $FEFF; print_char 'a'; quit
+    story.set([0xbe, 0x0b, 0x3f, 0xfe, 0xff, 0xe5, 0x7f, 0x61, 0xba], 0x800);
+    const game = module.open(story);
+    want(game.turn() === "stopped" && game.text() === "\ufeffa", "a text that begins with U+FEFF");
+    want(game.transcript() === "\ufeffa", "a transcript that begins with U+FEFF");
+    game.close();
+}
+
 /** A chunk of a Blorb file. */
 function chunk(name, content) {
     const head = Buffer.alloc(8);
@@ -404,6 +463,7 @@ function blorb(kind, executable) {
 
 /** The story of a Blorb file is taken out of it, and each other file is itself. */
 function blorbs(module) {
+    const first = sizeOf(module);
     const story = example("lighthouse.z5");
     const file = blorb("ZCOD", story);
     const is = (it, bytes) => it !== null && Buffer.compare(Buffer.from(it), bytes) === 0;
@@ -413,6 +473,7 @@ function blorbs(module) {
         want(module.storyIn(other) === other, "a file that is no Blorb file");
     for (const none of [file.subarray(0, 12), file.subarray(0, file.length - 1), blorb("GLUL", story)])
         want(module.storyIn(none) === null, "a Blorb file without a story");
+    wantAllFree(module, first, "stories in files");
     const long = refusalOf(() => module.storyIn(blorb("ZCOD", Buffer.alloc(524_290))));
     want(long.number === 3 && long.message === "the file is too long for its version", "a story that is too long");
     const great = refusalOf(() => module.storyIn(blorb("ZCOD", Buffer.alloc(80 << 20))));
@@ -611,6 +672,64 @@ function full(module) {
     wantAllFree(module, first, "a full memory");
 }
 
+/** A module whose requests for memory are refused from one on: `refuse(0, call)` refuses all that a call makes. */
+function refusing(module) {
+    const { calls } = module;
+    let left = Infinity;
+    module.calls = { ...calls, zkit_take: (size) => (left-- > 0 ? calls.zkit_take(size) : 0n) };
+    return (count, call) => {
+        left = count;
+        try {
+            return call();
+        } finally {
+            left = Infinity;
+        }
+    };
+}
+
+/** Each request for memory of the calls that open is refused: they say so, and keep none. */
+function refusedRequests(module) {
+    const first = sizeOf(module);
+    const story = example("lighthouse.z5");
+    const file = blorb("ZCOD", story);
+    const { snapshot } = nextByModule(module, story, null, null);
+    const refuse = refusing(module);
+    const opens = [
+        [2, () => module.open(story)], [3, () => module.openSnapshot(story, snapshot)], [4, () => module.storyIn(file)],
+    ];
+    for (const [requests, open] of opens)
+        for (let count = 0; count < requests; count++) {
+            const { number, message } = refuse(count, () => refusalOf(open));
+            want(number === 6 && message === "out of memory", `${open}: request ${count} is refused`);
+            wantAllFree(module, first, `${open} with ${count} requests`);
+        }
+    const text = Buffer.from("Dear reader, this is no story at all.\n".repeat(9));
+    const { number, message } = refuse(2, () => refusalOf(() => module.open(text)));
+    want(number === 2 && message === "version 68 is not played", "a text whose words there is no memory for");
+    wantAllFree(module, first, "a text");
+}
+
+/** Calls of a game for which there is no memory leave it as it was. */
+function refusedCalls(module) {
+    const first = sizeOf(module);
+    const game = module.open(example("lighthouse.z5"));
+    const refuse = refusing(module);
+    const calls = game.calls;
+    game.calls = module.calls;
+    want(game.turn() === "line" && !refuse(0, () => game.line("save")), "a line is not given");
+    want(refuse(0, () => game.snapshot()) === null && game.snapshot() !== null, "a snapshot is not made");
+    want(game.line("save") && game.turn() === "save", "the story saves");
+    want(refuse(0, () => game.image()) === null, "a saved game is not made");
+    const image = game.image();
+    want(image !== null && game.saved(true) && game.turn() === "line", "it is saved");
+    want(game.line("restore") && game.turn() === "restore", "the story restores");
+    want(!refuse(0, () => game.restore(image)) && game.restore(image), "a saved game is not given, and then is");
+    want(game.turn() === "line", "the story goes on");
+    game.calls = calls;
+    game.close();
+    wantAllFree(module, first, "calls that are refused");
+}
+
 /** Plays a story by the module; one that is refused ends as the program does. */
 function mayBeRefused(module, story, options, input, keeps = true) {
     try {
@@ -669,9 +788,10 @@ async function worker() {
 async function main() {
     const tests = [
         rows, examples, windows, listings, refusals, wordsOfReasons, refusedFiles, limits, seeds, inputs, commands,
-        sums, figures, blorbs, snapshots, snapshotRefusals, thousand, large, full, worker, generated,
+        sums, figures, firstCharacters, lastLines, blorbs, snapshots, snapshotRefusals, thousand, large, full,
+        refusedRequests, refusedCalls, worker, generated,
     ];
-    for (const test of tests) {
+    for (const test of NAMES.length === 0 ? tests : NAMES.map((name) => tests.find((it) => it.name === name))) {
         const begin = performance.now();
         const before = checks;
         await test(await Module.of(code));

@@ -50,15 +50,31 @@ export function madeButton(kind, text, does) {
 }
 
 /**
- * Shows a dialog, and answers the value that it was closed with: "none" where it was left.
+ * What ends the question that a dialog was shown for last.
+ * @type {WeakMap<HTMLDialogElement, () => void>}
+ */
+const ends = new WeakMap();
+
+/**
+ * Shows a dialog, and answers the value that it was closed with: "none" where it was left. Its event comes some time
+ * after its end, when it may stand there again: a question takes its own value, and not the event of the one before.
  * @param {HTMLDialogElement} it
  * @returns {Promise<string>}
  */
 export function closed(it) {
+    ends.get(it)?.();
     it.returnValue = "none";
     it.showModal();
-    return new Promise((resolve) =>
-        it.addEventListener("close", () => resolve(it.returnValue || "none"), { once: true }));
+    return new Promise((resolve) => {
+        const end = () => {
+            if (it.open)
+                return;
+            it.removeEventListener("close", end);
+            resolve(it.returnValue || "none");
+        };
+        ends.set(it, end);
+        it.addEventListener("close", end);
+    });
 }
 
 /**

@@ -363,9 +363,9 @@ export class Play {
         let now = standing;
         for (let count = 1; now.awaits === "save" || now.awaits === "restore"; count++) {
             const words = "The story keeps asking for saved games.";
-            if (count > MOST_FILES && !await agreed("Go on?", words, "Go on", "Stop it"))
+            if (count > MOST_FILES && !await this.unlessLeft(agreed("Go on?", words, "Go on", "Stop it")))
                 return { ...now, awaits: "halt" };
-            const next = await this.fileAnswer(now.awaits);
+            const next = await this.unlessLeft(this.fileAnswer(now.awaits));
             this.answers.push(next);
             now = await this.step(next);
         }
@@ -404,7 +404,8 @@ export class Play {
     }
 
     /**
-     * Gives a story that was opened all answers of a record, as far as they fit.
+     * Gives a story that was opened all answers of a record, as far as they fit. Where it asks for saved games after
+     * these, the reader is asked.
      * @param {Answer[]} answers
      */
     async replay(answers) {
@@ -418,7 +419,7 @@ export class Play {
             clearTimeout(again);
         }
         showRunning("");
-        this.settle(standing);
+        this.settle(await this.answerFiles(standing));
     }
 
     /**
@@ -439,8 +440,6 @@ export class Play {
                 this.answers.push(answer);
             standing = await this.runOn(answer);
         }
-        if (standing.awaits === "save" || standing.awaits === "restore")
-            standing = await this.runOn(standing.awaits === "save" ? { saved: false } : { restored: null });
         return standing;
     }
 

@@ -136,8 +136,8 @@ async function replacedSlot(page) {
     await page.until(() => !document.getElementById("saving").open);
     await page.say("open bag");
     await save();
-    await page.shown("asking");
-    holds((await page.text("asking-words")).includes("Jetty · line 1 ·"), await page.text("asking-words"));
+    await page.asks("Replace the saved game?", "Replace it", "Keep it");
+    holds((await page.text("asking-words")).startsWith("one: Jetty · line 1 ·"), await page.text("asking-words"));
     await page.click("#asking-no");
     await page.shown("saving");
     await page.click("#keep");
@@ -227,6 +227,11 @@ async function link(page) {
     for (const key of ["n", "Enter", "q"]) {
         await page.browser.press(key);
         await page.rests();
+        if (key === "n") {
+            await page.keeps(5);
+            await page.reload();
+            await page.rests();
+        }
     }
     await page.say("roll");
     const text = await page.transcript();
@@ -332,8 +337,8 @@ async function linkOfOwnStory(page) {
     same(await page.run(() => location.hash), "", "the address after an answer");
     await page.keeps(3);
     await page.browser.go(page.url + address);
-    await page.until(() => document.getElementById("asking").open);
-    holds((await page.text("asking-words")).includes("3 lines"), await page.text("asking-words"));
+    await page.asks("Show the shared play?", "Show it", "Keep mine");
+    same(await page.text("asking-words"), "It replaces your own play of this story, which has 3 lines.");
     await page.click("#asking-yes");
     await page.until(() => document.getElementById("told").textContent.includes("letter by letter"));
     await page.say("inventory");
@@ -404,7 +409,16 @@ async function badPlays(page) {
 
 async function badLink(page) {
     await page.fresh("#play=1abc");
-    holds((await page.told()).includes("can't be read"), await page.told());
+    const words = "The link can't be read: it is cut off, or this browser is too old for it.";
+    same(await page.told(), words);
+    await page.open(MENU);
+    await page.say("hello");
+    await page.keeps(1);
+    await page.browser.go(`${page.url}#play=1abc`);
+    await page.ready();
+    same(await page.told(), words);
+    same(await page.text("title"), "menu.z5", "the story after a link that is cut off");
+    holds((await page.text("log")).includes(">hello"), await page.text("log"));
 }
 
 async function box(page) {
@@ -427,6 +441,11 @@ async function menu(page) {
     await page.until(() => document.getElementById("upper").textContent.includes("> Who made it"));
     await page.browser.press("Enter");
     await page.until(() => document.getElementById("log").textContent.includes("A test did."));
+    // keys that the browser takes for itself are not the story's
+    for (const key of [{ ctrlKey: true }, { metaKey: true }, { altKey: true }, { isComposing: true }])
+        await page.run((it) => !document.body.dispatchEvent(new KeyboardEvent("keydown", { key: "q", bubbles: true, ...it })), key);
+    await page.rests();
+    same(await page.text("asked"), "Press a key", "what is asked after keys of the browser");
     await page.browser.press("q");
     await page.until(() => document.getElementById("asked").textContent !== "Press a key");
     same((await page.text("upper")).trim(), "The hall" + " ".repeat(60) + "Turns: 0");
@@ -469,6 +488,7 @@ async function withoutEnd(page) {
     await page.until(() => !document.getElementById("stop").hidden && !document.getElementById("running").hidden);
     await page.click("#stop");
     await page.until(() => document.getElementById("running-words").textContent.includes("stopped"));
+    same(await page.isShown("stop"), false, "whether a story that has stopped can be stopped");
     await page.click("#step-back");
     await page.until(() => !document.getElementById("ask").hidden);
     await page.say("print");
@@ -539,13 +559,20 @@ async function undoOfStory(page) {
     await page.until(() => document.querySelectorAll("#log .turn").length > 3);
     await page.rests();
     await page.say("look");
-    holds((await page.transcript()).includes("Jetty\nThe planks"), "the story is not where it was");
+    const text = await page.transcript();
+    holds(text.slice(text.lastIndexOf(">look")).startsWith(">look\nJetty\nThe planks"), "the story is not where it was");
 }
 
 async function restartAndSeed(page) {
     await page.fresh();
     await page.open(MENU);
     await page.say("roll");
+    await page.menu("restart");
+    await page.asks("Restart?", "Restart", "Go on");
+    same(await page.text("asking-words"), "The story starts over.");
+    await page.click("#asking-no");
+    await page.until(() => !document.querySelector("dialog[open]"));
+    same(await page.transcript(), native(["play", "--echo", MENU], "roll\n").text, "the transcript of a play that goes on");
     await seeded(page, "12");
     await page.say("roll");
     same(await page.transcript(), native(["play", "--echo", "--seed", "12", MENU], "roll\n").text, "the transcript");
@@ -565,8 +592,10 @@ async function settings(page) {
     });
     const before = await looks();
     await choose("theme", "dark");
+    const dark = await looks();
     await choose("size", "1.5");
     const after = await looks();
+    holds(dark !== before && after !== dark, `${before}, ${dark} and ${after} are not three looks`);
     await page.reload();
     await page.rests();
     same(await looks(), after, "how the page looks after a reload");
@@ -581,6 +610,8 @@ async function inside(page, path) {
     for (const [name, words] of Object.entries(LISTINGS)) {
         await page.click(`#tab-${name}`);
         await page.until(() => document.getElementById("panel").getAttribute("aria-busy") === "false");
+        const about = await page.text("panel-words");
+        holds(/^[A-Z].*\.$/.test(about), `the words of ${name}: ${about}`);
         const wanted = listed(words, path);
         if (wanted)
             same(readFileSync(await page.fileAfter(() => page.click("#listing-out")), "utf8"), wanted, name);
@@ -597,6 +628,15 @@ async function inside(page, path) {
     }
 }
 
+/** The lines of a tree without those below the first one that has some below it. */
+function withoutFirst(tree) {
+    const lines = tree.split("\n").slice(0, -1);
+    const depths = lines.map((line) => line.search(/\S/));
+    const first = depths.findIndex((depth, i) => depths[i + 1] > depth);
+    const end = depths.findIndex((depth, i) => i > first && depth <= depths[first]);
+    return joined(lines.filter((_, i) => i <= first || end >= 0 && i >= end));
+}
+
 async function insideWorks(page) {
     await page.fresh();
     await page.open(z(5));
@@ -606,10 +646,16 @@ async function insideWorks(page) {
     await page.until(() => document.querySelectorAll(".scale i").length === 8);
     const widths = await page.run(() => [...document.querySelectorAll(".scale i")].map((it) => parseFloat(it.style.width)));
     holds(Math.abs(widths.reduce((sum, it) => sum + it, 0) - 100) < 0.01, `the bar is ${widths}`);
+    const colours = await page.run(() => [...document.querySelectorAll(".scale i")].map((it) => getComputedStyle(it).backgroundColor));
+    same(new Set(colours).size, 8, "the number of colours of the bar");
     await page.click("#tab-tree");
     await page.until(() => document.querySelector("#listing .fold"));
     await page.click("#listing .fold");
     await page.until(() => !document.getElementById("listing").textContent.includes("postbag"));
+    const focus = await page.run(() => [document.activeElement.className, document.activeElement.getAttribute("aria-expanded")]);
+    same(focus.join(), "fold,false", "where the focus is after a line was folded");
+    const rows = await page.run(() => [...document.querySelectorAll("#listing .row-line")].map((it) => it.textContent).join(""));
+    same(rows, withoutFirst(listed(["info", "--tree"], z(5))), "the tree without what is in its first line");
     await page.click("#listing .fold");
     await page.until(() => document.getElementById("listing").textContent.includes("postbag"));
     await page.click("#tab-dictionary");
@@ -676,6 +722,13 @@ async function reflow(page) {
     holds(count >= 5, `${count} lines were joined`);
     const text = await page.run(() => document.getElementById("log").innerText);
     holds(text.includes("Your boat tugs at its rope.") && text.includes("HELP gives help.\n"), text);
+    await page.say("open bag");
+    const before = [await joins(), await page.text("prompt"), await page.text("log")];
+    await page.keeps(1);
+    await page.reload();
+    await page.rests();
+    const after = [await joins(), await page.text("prompt"), await page.text("log")];
+    same(after.join(), before.join(), "the joined lines, the prompt and the text after a reload");
     await page.open(MENU);
     await page.say("hello");
     same(await joins(), 0, "the number of joined lines of a story that does not wrap");

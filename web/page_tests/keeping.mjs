@@ -75,6 +75,22 @@ async function longReload(page) {
     holds(after.length >= most && after.length < most + 10000, `${after.length} characters are kept`);
 }
 
+/** A play that goes on after reloads has it in its answers once, however often it was loaded. */
+async function twoReloads(page) {
+    await page.fresh();
+    await page.open(MENU);
+    await page.say("roll");
+    for (const place of ["first", "second"]) {
+        await page.keeps(1);
+        await page.reload();
+        await page.rests();
+        same(await page.text("title"), "menu.z5", `the story after the ${place} reload`);
+    }
+    await page.lines();
+    const file = JSON.parse(readFileSync(await page.fileAfter(() => page.click("#play-file"))));
+    same(JSON.stringify(file.answers), '["roll",{"fresh":true}]', "the answers of the play");
+}
+
 /** Saves a game by the page's window, with a name. */
 async function save(page, name) {
     await page.say("save");
@@ -112,10 +128,9 @@ async function forgets(page, isLasting) {
     await save(page, "second");
     same(await listedSaves(page), "second,first", "the saved games");
     await page.click("#slots li:first-child button:last-child");
+    await page.asks("Remove the saved game?", "Remove it", "Keep it");
     await page.click("#asking-no");
     await page.until(() => !document.getElementById("asking").open);
-    // the window's own `close` comes behind its end
-    await page.run(() => new Promise((resolve) => setTimeout(() => resolve(true), 50)));
     same(await page.run(() => document.querySelectorAll("#slots li").length), 2, "the number of saved games that are kept");
     await page.click("#slots li:first-child button:last-child");
     await page.click("#asking-yes");
@@ -198,10 +213,33 @@ async function savedFiles(page) {
     same(await page.shownText(), text.slice(0, -1), "the text");
 }
 
+/** A question that is asked at once after another one, before that one's event: each has its own answer. */
+async function askedAtOnce(page) {
+    await page.fresh();
+    await page.click("#example");
+    await page.rests();
+    for (const name of ["first", "second", "third"])
+        await save(page, name);
+    same(await listedSaves(page), "third,second,first", "the saved games");
+    await page.click("#slots li:first-child button:last-child");
+    await page.shown("asking");
+    await page.run(() => {
+        document.getElementById("asking-no").click();
+        document.querySelector("#slots li:last-child button:last-child").click();
+    });
+    await page.until(() => document.getElementById("asking-words").textContent.startsWith("first:"));
+    await page.click("#asking-yes");
+    await page.until(() => document.querySelectorAll("#slots li").length < 3);
+    await page.leave();
+    same(await listedSaves(page), "third,second", "the saved games after the last one was removed");
+}
+
 export const KEEPING = [
     ["a kept story that has changed", changedStory],
     ["a reload of a long text", longReload],
+    ["two reloads", twoReloads],
     ["saved games that are removed", async (page) => (await page.fresh(), forgets(page, true))],
+    ["a question right after another one", askedAtOnce],
     ...Object.keys(KEEPS_NOTHING).map((how) => [`a browser that keeps nothing: ${how}`, (page) => forgetsAll(page, how)]),
     ["files that are no saved games", savedFiles],
 ];

@@ -9,7 +9,9 @@ export const ROOT = join(fileURLToPath(import.meta.url), "../../..");
 export const EXAMPLES = join(ROOT, "examples");
 export const MENU = join(ROOT, "web/page_tests/menu.z5");
 const ZKIT = join(ROOT, "dist/zkit");
-const LONGEST_WAIT = 40000;
+
+/** So many milliseconds a test waits at most for what is to come. */
+export const LONGEST = { wait: 40000 };
 
 export const pause = (time) => new Promise((resolve) => setTimeout(resolve, time));
 
@@ -60,7 +62,7 @@ export class Page {
     }
 
     async until(does, ...values) {
-        const end = Date.now() + LONGEST_WAIT;
+        const end = Date.now() + LONGEST.wait;
         for (let wait = 2; Date.now() < end; wait = Math.min(100, wait * 2)) {
             // (while a page is loading there is nothing to run in)
             const it = await this.run(does, ...values).catch(() => null);
@@ -113,6 +115,13 @@ export class Page {
 
     shown(id) {
         return this.until((name) => document.getElementById(name).getClientRects().length > 0, id);
+    }
+
+    /** Waits until a question is asked, and looks whether it is this one, with these answers. */
+    async asks(head, yes, no) {
+        await this.shown("asking");
+        const words = await Promise.all(["head", "yes", "no"].map((part) => this.text(`asking-${part}`)));
+        same(words.join(" | "), [head, yes, no].join(" | "), "the question");
     }
 
     /** Clicks by the mouse on the first element of a kind, once it is seen and nothing lies over it. */
@@ -215,7 +224,7 @@ export class Page {
         files().forEach(({ name }) => rmSync(join(folder, name), { recursive: true, force: true }));
         await does();
         let before = "";
-        for (const end = Date.now() + LONGEST_WAIT; Date.now() < end; await pause(20)) {
+        for (const end = Date.now() + LONGEST.wait; Date.now() < end; await pause(20)) {
             const seen = files();
             const isStill = JSON.stringify(seen) === before;
             const isWhole = !seen.some(({ name }) => /\.(part|crdownload)$/.test(name));

@@ -51,6 +51,12 @@ export function asking() {
     return storyOf([...printed(">"), ...READ, 0xbe, 0x00, 0xff, 0x10, ...jumpBack(4)]);
 }
 
+/** A story that restores so many times, whatever is answered, and then prints a text and reads lines. */
+export function restoring(count, text) {
+    const restores = Array.from({ length: count }, () => [0xbe, 0x01, 0xff, 0x10]).flat();
+    return storyOf([...restores, ...printed(text), ...READ, ...jumpBack(READ.length)]);
+}
+
 /** A story that runs twelve million instructions and prints a text before each line that it reads. */
 export function counting(text) {
     // store global 1, 0; store global 0, 0; inc_chk global 0, 30000 ?~ again; inc_chk global 1, 399 ?~ back to the second one

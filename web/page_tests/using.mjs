@@ -3,7 +3,7 @@
 import { randomBytes } from "node:crypto";
 import { writeFileSync } from "node:fs";
 import { EXAMPLES, MENU, ROOT, basename, holds, join, native, readFileSync, same } from "./page.mjs";
-import { asking, counting, telling, tellingStatus } from "./stories.mjs";
+import { asking, counting, repeating, restoring, telling, tellingStatus } from "./stories.mjs";
 
 const Z5 = join(EXAMPLES, "lighthouse.z5");
 
@@ -149,11 +149,90 @@ async function endlessSaves(page) {
     };
     for (let i = 0; i < 3; i++)
         await refuseSave();
+    await page.asks("Go on?", "Go on", "Stop it");
+    same(await page.text("asking-words"), "The story keeps asking for saved games.");
     await page.click("#asking-yes");
     await refuseSave();
     await page.click("#asking-no");
     await page.until(() => document.getElementById("running-words").textContent === "You have stopped the story.");
     same(await page.isShown("go-on"), true, "whether the story can go on");
+}
+
+/** A story may ask for a saved game before it reads: the reader is asked each time, and what was answered is kept. */
+async function restoresFirst(page) {
+    const story = restoring(2, "Begun.\n>");
+    const file = join(page.browser.folder, "profile", "restores.z5");
+    writeFileSync(file, story);
+    const wanted = (lines) => native(["play", "--echo", file], lines).text;
+    await page.fresh();
+    await page.drop(story, "restores.z5");
+    for (let i = 0; i < 2; i++) {
+        await page.shown("restoring");
+        await page.click("#restore-none");
+    }
+    await page.until(() => document.getElementById("log").textContent.includes("Begun."));
+    await page.rests();
+    same(await page.run(() => document.querySelector("dialog[open]")?.id ?? ""), "", "the window at the first read");
+    await page.sayAll(["one", "two"]);
+    same(await page.transcript(), wanted("one\ntwo\n"), "the transcript");
+    await page.lines();
+    await page.click("#line-list li:last-child button");
+    await page.until(() => document.querySelectorAll("#log .typed").length === 1);
+    await page.rests();
+    same(await page.run(() => document.querySelector("dialog[open]")?.id ?? ""), "", "the window where a line is gone to");
+    same(await page.transcript(), wanted("one\n"), "the transcript before the second line");
+}
+
+/** A window that a story has opened and that is left for another story answers nothing there. */
+async function leftQuestion(page) {
+    await page.fresh();
+    await play(page, asking(), "asks.z5");
+    await page.say("go");
+    await page.shown("saving");
+    await page.drop(readFileSync(MENU), "menu.z5");
+    await page.until(() => document.getElementById("title").textContent === "menu.z5");
+    await page.until(() => document.getElementById("log").textContent.includes("A hall."));
+    await page.leave();
+    await page.rests();
+    await page.say("roll");
+    same(await page.transcript(), native(["play", "--echo", MENU], "roll\n").text, "the transcript of the other story");
+}
+
+/** A text is divided where a line ends, also where a line is longer than a part of the text. */
+async function longLines(page) {
+    await page.fresh();
+    const text = `${"x".repeat(7000)}\nsecond\nthird\n${"y".repeat(3000)}\n${"z".repeat(5000)}\nlast\n`;
+    await play(page, telling(`${text}>`), "lines.z5");
+    const parts = await page.run(() => [...document.querySelectorAll("#log .turn span.text")].map((it) => it.textContent));
+    same(parts.join(""), text, "the text");
+    holds(parts.length > 1 && parts.every((part) => part.endsWith("\n")), `${parts.map((part) => part.slice(-9)).join("|")}`);
+}
+
+/** What an answer brings is read from its start: the line that was typed is seen, and not the end of a long text. */
+async function startOfAnswer(page) {
+    await page.fresh();
+    await play(page, repeating("On and on it goes.\n", 99), "long.z5");
+    await page.say("further");
+    const [top, bottom, line, left] = await page.run(() => {
+        const scroller = document.getElementById("scroller");
+        const around = scroller.getBoundingClientRect();
+        const typed = document.querySelector("#log .typed").getBoundingClientRect();
+        return [around.top, around.bottom, typed.top, scroller.scrollHeight - scroller.clientHeight - scroller.scrollTop];
+    });
+    holds(line >= top && line < top + (bottom - top) / 4, `the line is at ${line} between ${top} and ${bottom}`);
+    holds(left > 100, `${left} pixels are left to read`);
+}
+
+/** While a file is dragged over the page, the page says where it may be dropped; no longer once it has gone. */
+async function draggedFile(page) {
+    const outlined = () => page.run(() => document.body.classList.contains("dragged"));
+    const drag = (kind) => page.run((name) => !dispatchEvent(new DragEvent(name, { bubbles: true, cancelable: true })), kind);
+    await page.fresh();
+    for (const [kind, isOver] of [["dragenter", true], ["dragleave", false], ["dragover", true], ["drop", false]]) {
+        same(await drag(kind), kind !== "dragleave", `whether the page takes ${kind}`);
+        same(await outlined(), isOver, `whether the page is marked after ${kind}`);
+    }
+    same(await page.isShown("welcome"), true, "whether the page still asks for a story");
 }
 
 /** A story may run for longer than `zkit play` lets it by itself. */
@@ -173,6 +252,8 @@ async function continues(page) {
         await page.keeps(2);
         await page.open(Z5);
         await page.choose(MENU);
+        await page.asks("Continue?", "Continue where I was", "Start over");
+        same(await page.text("asking-words"), "You have played this story here before.");
         await page.click(`#${button}`);
         await page.until(() => document.getElementById("title").textContent === "menu.z5");
         await page.rests();
@@ -213,7 +294,7 @@ async function otherStory(page) {
     const words = `This is a play of menu.z5, 2 lines long. To see it, choose that story's file; its IFID is ${ifids[0]}.`;
     same(await page.text("invitation"), words);
     await page.choose(Z5);
-    await page.shown("asking");
+    await page.asks("Play a different story?", "Play it", "No");
     same(await page.text("asking-words"), `Its IFID is ${ifids[1]}, but that of the shared play is ${ifids[0]}.`);
     await page.click("#asking-no");
     same(await page.isShown("play"), false, "whether the other story is played");
@@ -228,6 +309,26 @@ async function otherStory(page) {
     await page.until(() => document.getElementById("title").textContent === "lighthouse.z5");
     await page.rests();
     same(await page.transcript(), native(["play", Z5]).text, "the transcript of the other story");
+}
+
+/** A play that goes on from one's own takes its place at once; of another one the reader is asked. */
+async function ownPlayInIt(page) {
+    await page.fresh();
+    await page.open(MENU);
+    await page.say("roll");
+    await page.lines();
+    const file = JSON.parse(readFileSync(await page.fileAfter(() => page.click("#play-file"))));
+    await page.leave();
+    const give = (answers) => page.drop(Buffer.from(JSON.stringify({ ...file, answers })), "other.play.json");
+    await give(["rolls", "hello"]);
+    await page.asks("Show the shared play?", "Show it", "Keep mine");
+    await page.click("#asking-no");
+    await page.until(() => !document.querySelector("dialog[open]"));
+    same(await page.run(typedLines), "roll", "the lines of the play that was kept");
+    await give(["roll", "hello"]);
+    await page.until(() => document.querySelectorAll("#log .typed").length === 2);
+    await page.rests();
+    same(await page.run(typedLines), "roll,hello", "the lines of the play that goes on from there");
 }
 
 /** A link is offered up to 8,192 characters, and has only such as an address may have. */
@@ -274,7 +375,7 @@ async function strangePlays(page) {
         await page.until((words) => document.getElementById("told").textContent === words,
             `bad${i}.json: not a story: it is a text file`);
     }
-    const answers = ["look", 0x10ffff, 0, { saved: true }, { restored: null }, { restored: "AAAA" }, { undo: true }, { fresh: true }];
+    const answers = ["look", 0x10ffff, 0, { saved: true }, { restored: null }, { restored: "AA==" }, { undo: true }, { fresh: true }];
     const good = { name: "y".repeat(300), seed: "1".repeat(20), answers };
     await page.drop(Buffer.from(JSON.stringify({ ...play0, ...good })), "good.json");
     await page.until(() => document.getElementById("invitation").textContent.includes("yyy, 4 lines long"));
@@ -355,6 +456,10 @@ async function tabs(page) {
         same(await page.run(() => document.querySelector("[aria-selected=true]").id), `tab-${name}`, `the tab shown after ${key}`);
     }
     await page.until(() => document.getElementById("panel").getAttribute("aria-busy") === "false");
+    const tabNames = await page.run(() => [...document.querySelectorAll("[role=tab]")].map((it) => it.textContent));
+    same(tabNames.join(), "Check,Header,Map,Objects,Tree,Dictionary,Texts,Code", "the names of the tabs");
+    const controls = await page.run(() => [...document.querySelectorAll("[role=tab]")].map((it) => it.getAttribute("aria-controls")));
+    same([...new Set(controls)].join(), "panel", "what the tabs control");
     const length = readFileSync(Z5).length;
     const lines = native(["info", "--map", Z5]).text.trimEnd().split("\n").slice(1);
     const starts = [...lines.map((line) => parseInt(line.slice(0, 5), 16)), length];
@@ -454,10 +559,16 @@ export const USING = [
     ["undo further than there are states", undoFar],
     ["the ways on from an end", ends],
     ["a story that saves without end", endlessSaves],
+    ["a story that restores before it reads", restoresFirst],
+    ["a question that is left for another story", leftQuestion],
+    ["lines that are longer than a part", longLines],
+    ["an answer is read from its start", startOfAnswer],
+    ["a file that is dragged", draggedFile],
     ["a story that runs for long", longRun],
     ["a story that was played before", continues],
     ["the twelve newest plays", twelvePlays],
     ["a play and another story", otherStory],
+    ["a play that goes on from one's own", ownPlayInIt],
     ["the longest link", longestLink],
     ["plays with one part that is none", strangePlays],
     ["seeds", seeds],
