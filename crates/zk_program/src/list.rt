@@ -86,8 +86,8 @@ struct Several<'a> {
     told: bool,
 }
 
-/// Tells at a terminal which of the stories comes next, where words that follow stand over it; before the last one it is
-/// taken away.
+/// Tells at a terminal which of the stories comes next, where words that follow stand over it; before the last one it
+/// is taken away.
 fn tell_count(rt: &HostRuntime, number: usize, count: usize) {
     let _ = if number < count {
         eprint!(rt; "{number} of {count}\r")
