@@ -285,7 +285,8 @@ static int show_new(void) {
         if (count - first <= rows + 1)
             break;
         size_t end = starts[first + rows];
-        draw(end, end, 1);
+        /* behind a new line another row would begin, with nothing in it */
+        draw(end - (text[end - 1] == L'\n'), end, 1);
         mvaddstr(LINES - 1, 0, "[more]");
         if (next_key(&key, &is_code) == IS_LEFT)
             return IS_LEFT;
