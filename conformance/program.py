@@ -117,18 +117,20 @@ class Cases(Written):
         same((1, 2, 0o640), rights_of(kept))
 
     def check_other_owner(self) -> None:
-        """A player who may not keep the owner and the group is told so, and gives nobody rights who had none."""
-        self.write({"open/kept": OLD})
-        kept = self.folder / "open/kept"
-        kept.chmod(0o756)
-        kept.parent.chmod(0o777)
-        self.give_away(kept)
-        if not self.without_rights:
-            raise LeftOut("the user nobody can't start the program")
+        """A player who may not keep the owner and the group is told so, and gives nobody rights who had none; a group
+        of the player's is kept, with its rights."""
         told = "zkit: open/kept: the game was saved, but the file has another owner or group than before\n"
         words = "play --save open/kept saves_on.z3"
-        self.check((0, "", told), words, user=3, group=4, extra_groups=[])
-        same((3, 4, 0o744), rights_of(kept))
+        for groups, mode, rights in (([], 0o756, (3, 4, 0o744)), ([2], 0o765, (3, 2, 0o765))):
+            self.write({"open/kept": OLD})
+            kept = self.folder / "open/kept"
+            kept.chmod(mode)
+            kept.parent.chmod(0o777)
+            self.give_away(kept)
+            if not self.without_rights:
+                raise LeftOut("the user nobody can't start the program")
+            self.check((0, "", told), words, user=3, group=4, extra_groups=groups)
+            same(rights, rights_of(kept))
 
     def check_calls(self) -> None:
         """The game is on the disk, with the rights of the old one, before it takes that one's place."""
