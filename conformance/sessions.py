@@ -9,6 +9,7 @@ texts stand in sessions.cases. Each other one is a method here, which stops wher
 
 from __future__ import annotations
 
+import itertools
 import json
 import os
 import pty
@@ -161,6 +162,15 @@ class Sessions(Asked):
         os.unlink(os.fsencode(self.folder / "some/b") + b"/\xff.z3")
         told = told.replace("2 names in it are", "1 name in it is")
         self.check((4, ifids, told), "info --ifid --recursive some")
+
+    def pairs_of_sections(self) -> None:
+        """Two sections of one object are those that each has alone."""
+        sections = ("header map abbreviations dictionary objects tree ifid strings properties globals alphabets "
+                    "extension").split()
+        alone = {it: self.facts_of(f"info --{it} --json lighthouse.z5") for it in sections}
+        for one, other in itertools.combinations(sections, 2):
+            both = self.facts_of(f"info --{one} --{other} --json lighthouse.z5")
+            same({**alone[one], **alone[other]}, both)
 
     def facts_in_json(self) -> None:
         """An object for each story, on a line, with the same facts."""
