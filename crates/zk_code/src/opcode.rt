@@ -135,10 +135,7 @@ pub enum Idle {
     Nop,
     SetColour,
     SetTrueColour,
-    SetTextStyle,
     BufferMode,
-    SoundEffect,
-    SetFont,
     Piracy,
     CheckUnicode,
 }
@@ -158,7 +155,7 @@ pub enum Words {
     EncodeText,
 }
 
-/// The screen's windows, the cursor and the status line.
+/// The screen: its windows, the cursor, the status line, styles and fonts, and bleeps.
 #[derive(Clone, Copy, PartialEq, Eq, Drop)]
 pub enum Window {
     SplitWindow,
@@ -168,6 +165,9 @@ pub enum Window {
     SetCursor,
     GetCursor,
     ShowStatus,
+    SetTextStyle,
+    SetFont,
+    SoundEffect,
 }
 
 /// The choice of output and input streams.
@@ -409,10 +409,7 @@ impl Idle {
             Idle::Nop => "nop",
             Idle::SetColour => "set_colour",
             Idle::SetTrueColour => "set_true_colour",
-            Idle::SetTextStyle => "set_text_style",
             Idle::BufferMode => "buffer_mode",
-            Idle::SoundEffect => "sound_effect",
-            Idle::SetFont => "set_font",
             Idle::Piracy => "piracy",
             Idle::CheckUnicode => "check_unicode",
         }
@@ -457,6 +454,9 @@ impl Window {
             Window::SetCursor => "set_cursor",
             Window::GetCursor => "get_cursor",
             Window::ShowStatus => "show_status",
+            Window::SetTextStyle => "set_text_style",
+            Window::SetFont => "set_font",
+            Window::SoundEffect => "sound_effect",
         }
     }
 }

@@ -31,7 +31,7 @@ use Rattle.zk_step.specs.Halves.{text_then, whole_of}
 use Rattle.zk_step.specs.Instructions.{HasBegun, carried_out}
 use Rattle.zk_step.specs.Limited.{limited_move, limited_next, text_in}
 use Rattle.zk_step.specs.Printing.{characters_of, units_of}
-use Rattle.zk_step.specs.Routing.{Texts, ends_line, no_text, routed, routed_by, routed_to, shown_if, streamed}
+use Rattle.zk_step.specs.Routing.{Signals, ends_line, no_signals, routed, routed_by, routed_to, shown_if, streamed}
 use Rattle.zk_step.specs.Routing.{stored_all, table_filled, upper_printed}
 use Rattle.zk_step.specs.Streams.{newest_of}
 use Rattle.zk_step.specs.Variables.{operands_read, with_frames}
@@ -73,9 +73,9 @@ same_rest (o ∷ os) w t vs x h =
 -- ---- at first it is all of the text
 
 -- an instruction shows the text of its route, unless it is refused: then there is none
-text_by : (found : GameState) (i : Instr) (vs : List ℕ) (w : GameState) (e : Effect) (w3 : GameState) (t : Texts)
+text_by : (found : GameState) (i : Instr) (vs : List ℕ) (w : GameState) (e : Effect) (w3 : GameState) (t : Signals)
     (r : Result (GameState × Next) Refusal) → HasBegun found i w vs e → routed found.memory w e.output ≡ Ok (w3, t)
-    → limited_next (finished w3 i vs e.ending) ≡ r → (t ≡ no_text) ⊎ IsOk r
+    → limited_next (finished w3 i vs e.ending) ≡ r → (t ≡ no_signals) ⊎ IsOk r
     → text_in (limited_move (carried_out found i)) ≡ t
 text_by found i vs w e w3 t (Ok (w4, n)) begun route end sure =
     shown_text _ _ _ _ (carried_ok found i vs w e w3 t w4 n begun route end)
@@ -85,10 +85,10 @@ text_by found i vs w e w3 t (Err r) begun route end (inr ok) = absurd cc
 
 silent_by : (found : GameState) (i : Instr) (vs : List ℕ) (w : GameState) (e : Effect)
     (r : Result GameState Fault) → HasBegun found i w vs e
-    → routed found.memory w e.output ≡ (r >>= λ v. let x : GameState × Texts = (v, no_text) in Ok x)
-    → no_text ≡ text_in (limited_move (carried_out found i))
+    → routed found.memory w e.output ≡ (r >>= λ v. let x : GameState × Signals = (v, no_signals) in Ok x)
+    → no_signals ≡ text_in (limited_move (carried_out found i))
 silent_by found i vs w e (Ok v) begun route =
-    sym (text_by found i vs w e v no_text (limited_next (finished v i vs e.ending)) begun route refl (inl refl))
+    sym (text_by found i vs w e v no_signals (limited_next (finished v i vs e.ending)) begun route refl (inl refl))
 silent_by found i vs w e (Err f) begun route = sym (refused_text _ _ (route_refused found i vs w e f begun route))
 
 screen_text : (w : GameState) (o : Output) (x : Rest) → whole_of o ≡ Some x
@@ -123,14 +123,13 @@ text_whole found i vs w e x codes draft h None Lower newest is same whole begun 
 
 -- ---- texts that are shown
 
-pub shows_all : {S : Type 0} (shows : S → S → List ℕ → List ℕ → Type 0) (a b : S) (t : Texts)
-    → shows a b t.screen t.script → ShowsSome shows a b t no_text
+pub shows_all : {S : Type 0} (shows : S → S → Signals → Type 0) (a b : S) (t : Signals)
+    → shows a b t → ShowsSome shows a b t no_signals
 shows_all {S} shows a b t h =
-    let n = length t.screen + length t.script in
     record {
-      count = n;
-      shown = rw (take_all n t.screen (omega arith), take_all n t.script (omega arith)) h;
-      is = rw (drop_all n t.screen (omega arith), drop_all n t.script (omega arith)) refl;
+      count = length t;
+      shown = rw (take_all (length t) t (omega arith)) h;
+      is = sym (drop_all (length t) t (omega arith));
     }
 
 pub ok_weaker : {T E : Type 0} (r : Result T E) (P Q : T → Type 0) (R : E → Type 0) → ((x : T) → P x → Q x)
@@ -139,8 +138,8 @@ ok_weaker {T} {E} (Ok x) P Q R f h = f x h
 ok_weaker {T} {E} (Err e) P Q R f h = h
 
 -- texts of the game state whose operands were taken are those of the one that was found
-pub shows_then : {S : Type 0} (shows : S → S → List ℕ → List ℕ → Type 0) (a b : S) (os : List Operand)
-    (found w : GameState) (vs : List ℕ) (due due' : Texts) (p : Progress) → operands_read found os ≡ Ok (w, vs)
+pub shows_then : {S : Type 0} (shows : S → S → Signals → Type 0) (a b : S) (os : List Operand)
+    (found w : GameState) (vs : List ℕ) (due due' : Signals) (p : Progress) → operands_read found os ≡ Ok (w, vs)
     → due ≡ due' → ShowsSome shows a b due (text_then w p) → ShowsSome shows a b due' (text_then found p)
 shows_then {S} shows a b os found w vs due due' (Done n) taken same h = rw same at h
 shows_then {S} shows a b os found w vs due due' (Part x) taken same h =

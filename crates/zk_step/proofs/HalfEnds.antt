@@ -12,7 +12,7 @@ use Rattle.zk_step.specs.declared.state.ending.Next.{Next}
 use Rattle.zk_step.specs.declared.state.ending.Next.TheVariants.{At, Asks}
 use Rattle.zk_step.specs.declared.state.ending.Output.{Output}
 use Rattle.zk_step.specs.declared.state.ending.Output.TheVariants.{Nothing, Status, Code, Character, Number, Text, Line}
-use Rattle.zk_step.specs.declared.state.ending.Output.TheVariants.{Rows}
+use Rattle.zk_step.specs.declared.state.ending.Output.TheVariants.{Rows, Erasure, Bleep}
 use Rattle.zk_step.specs.declared.state.game_state.GameState.{GameState}
 use Rattle.zk_step.specs.Effects.{effect_of}
 use Rattle.zk_step.specs.Finish.{finished}
@@ -20,7 +20,7 @@ use Rattle.zk_step.specs.Halves.{ShowsSome, rest_on, rest_text_by, whole_of}
 use Rattle.zk_step.specs.Instructions.{HasBegun}
 use Rattle.zk_step.specs.Limited.{limited_next}
 use Rattle.zk_step.specs.Printing.{IsLong, IsPlainEnd}
-use Rattle.zk_step.specs.Routing.{Texts, no_text, routed, routed_by, shown_if}
+use Rattle.zk_step.specs.Routing.{Signals, no_signals, routed, routed_by, streamed_all}
 use Rattle.zk_step.specs.Silence.{IsQuiet}
 use Rattle.zk_step.specs.Streams.{newest_of}
 use Rattle.zk_step.specs.Variables.{operands_read}
@@ -40,6 +40,8 @@ by_tables w (Line a) h = refl
 by_tables w (Rows r) h = refl
 by_tables w Nothing h = absurd h
 by_tables w Status h = absurd h
+by_tables w Erasure h = absurd h
+by_tables w (Bleep b) h = absurd h
 by_tables w (Code c) h = absurd h
 by_tables w (Character c) h = absurd h
 by_tables w (Number n) h = absurd h
@@ -56,30 +58,28 @@ long_of (Line a) x e = tt
 long_of (Rows r) x e = tt
 long_of Nothing x e = absurd cc
 long_of Status x e = absurd cc
+long_of Erasure x e = absurd cc
+long_of (Bleep b) x e = absurd cc
 long_of (Code c) x e = absurd cc
 long_of (Character c) x e = absurd cc
 long_of (Number n) x e = absurd cc
 
 -- what ends plainly asks nothing
-pub plain_quiet : (w v : GameState) (i : Instr) (vs : List ℕ) (e : Ending) (n : Next) (text : Texts)
+pub plain_quiet : (w v : GameState) (i : Instr) (vs : List ℕ) (e : Ending) (n : Next) (text : Signals)
     → IsPlainEnd e → limited_next (finished w i vs e) ≡ Ok (v, n) → IsQuiet n text
 plain_quiet w v i vs e (At pc) text plain h = tt
 plain_quiet w v i vs e (Asks x) text plain h =
     absurd (subst IsPlainEnd (ends_as w i vs e v (Asks x) (next_is _ (v, Asks x) h)) plain)
 
-none_shown : (on : Bool) → shown_if on [] ≡ []
-none_shown true = refl
-none_shown false = refl
-
 -- nothing is still to come
-pub none_left : (t : Option OpenTable) (window : Window) (w : GameState) → rest_text_by t window w [] ≡ no_text
-unfolding shown_all
-none_left None Lower w = rw (none_shown w.streams.screen, none_shown _) refl
+pub none_left : (t : Option OpenTable) (window : Window) (w : GameState) → rest_text_by t window w [] ≡ no_signals
+unfolding shown_all streamed_all
+none_left None Lower w = refl
 none_left None Upper w = refl
 none_left (Some t) window w = refl
 
-pub all_shown : {S : Type 0} (shows : S → S → List ℕ → List ℕ → Type 0) (a b : S) (whole : Texts)
+pub all_shown : {S : Type 0} (shows : S → S → Signals → Type 0) (a b : S) (whole : Signals)
     (t : Option OpenTable) (window : Window) (w : GameState) (on : Bool) (rest : Rest) → on ≡ false
-    → ShowsSome shows a b whole (rest_text_by t window w (rest_on w.memory on rest)) → ShowsSome shows a b whole no_text
+    → ShowsSome shows a b whole (rest_text_by t window w (rest_on w.memory on rest)) → ShowsSome shows a b whole no_signals
 all_shown {S} shows a b whole t window w true rest off h = absurd cc
 all_shown {S} shows a b whole t window w false rest off h = rw (none_left t window w) at h

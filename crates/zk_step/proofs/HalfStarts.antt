@@ -17,7 +17,7 @@ use Rattle.zk_step.specs.declared.output.parts.Rest.{Rest}
 use Rattle.zk_step.specs.declared.output.parts.Rest.TheVariants as rest
 use Rattle.zk_step.specs.declared.state.ending.Output.{Output}
 use Rattle.zk_step.specs.declared.state.ending.Output.TheVariants.{Nothing, Code, Character, Number, Text, Line, Rows}
-use Rattle.zk_step.specs.declared.state.ending.Output.TheVariants.{Status}
+use Rattle.zk_step.specs.declared.state.ending.Output.TheVariants.{Status, Erasure, Bleep}
 use Rattle.zk_step.specs.declared.output.parts.Half.{Half}
 use Rattle.zk_step.specs.declared.output.streams.OpenTable.{OpenTable}
 use Rattle.zk_step.specs.declared.state.game_state.GameState.{GameState}
@@ -49,6 +49,8 @@ whole_units m (Code c) x e = absurd cc
 whole_units m (Character c) x e = absurd cc
 whole_units m (Number n) x e = absurd cc
 whole_units m Status x e = absurd cc
+whole_units m Erasure x e = absurd cc
+whole_units m (Bleep b) x e = absurd cc
 
 first_stands : (a : ℕ) → IsPlace (first_place a)
 first_stands a = record { taken = omega arith; after = tt }
@@ -64,6 +66,8 @@ whole_stands m (Code c) x e h = absurd cc
 whole_stands m (Character c) x e h = absurd cc
 whole_stands m (Number n) x e h = absurd cc
 whole_stands m Status x e h = absurd cc
+whole_stands m Erasure x e h = absurd cc
+whole_stands m (Bleep b) x e h = absurd cc
 
 rows_whole : (on : Bool) (t : ExtraTable) (rows : List (List ℕ)) (w : Windows)
     → upper_rows on t w.column 0 rows w ≡ rectangle_printed on t rows w
@@ -87,6 +91,8 @@ whole_upper on m (Code c) x w e = absurd cc
 whole_upper on m (Character c) x w e = absurd cc
 whole_upper on m (Number n) x w e = absurd cc
 whole_upper on m Status x w e = absurd cc
+whole_upper on m Erasure x w e = absurd cc
+whole_upper on m (Bleep b) x w e = absurd cc
 
 -- ---- ways
 

@@ -49,7 +49,8 @@ use Rattle.zk_step.specs.Words.{words_changed}
 use Rattle.zk_step.specs.Inputs.{reading, line_answered, character_answered, result_answered}
 use Rattle.zk_step.specs.Instructions.{carried_out}
 use Rattle.zk_step.specs.Effects.{effect_of}
-use Rattle.zk_step.specs.Routing.{routed, ends_line, script_is_on, stored_all, unit_stored, upper_printed}
+use Rattle.zk_step.specs.Routing.{routed, ends_line, script_is_on, stored_all, streamed_all, style_shown, unit_stored}
+use Rattle.zk_step.specs.Routing.{upper_printed}
 use Rattle.zk_step.specs.Streams.{newest_of, opened, counted, tables_below}
 use Rattle.zk_term.specs.Windows.{first_windows, split, window_selected, printed, cursor_set, character_printed}
 use Rattle.zk_term.specs.Windows.{cleared, unsplit}
@@ -60,7 +61,7 @@ use Rattle.zk_tables.specs.Scanning.{scanned}
 use Rattle.zk_tables.specs.Rectangles.{row_at, rows_from, rows_of}
 use Rattle.zk_step.specs.Saving.{saving}
 use Rattle.zk_mem.specs.Checksum.{file_sum, has_right_sum}
-use Rattle.zk_step.specs.Restarts.{begun_again, windows_closed}
+use Rattle.zk_step.specs.Restarts.{begun_again, made_roman, windows_closed}
 use Rattle.zk_mem.specs.Again.{settled, again, restarted}
 use Rattle.zk_mem.specs.Fresh.{with_fields}
 use Rattle.zk_step.specs.Resuming.{resumed}
@@ -87,7 +88,7 @@ unfolding arithmetic shifted_left shifted_right sign_shifted comparison equals_a
     has_key found_from found_in is_separator is_letter run token_here tokens_from tokens letters_counted
     letters_to_zero letters_of word_in words_of block_put blocks_put words_put tokenised words_changed reading
     line_answered character_answered carried_out effect_of routed newest_of first_windows ends_line script_is_on
-    within_bounds sizes_of
+    style_shown streamed_all window_effect within_bounds sizes_of
 examples = tt
 
 -- the definitions that are opened in push effect
@@ -98,17 +99,17 @@ in_push_effect = tt
 -- the definitions that are opened in output examples
 unfoldable pub output_examples : ⊤
 unfolding opened counted newest_of tables_below stream_selected byte_at byte_put word_put first_windows routed
-    unit_stored stored_all ends_line script_is_on upper_printed units_of characters_of bytes_put words_from
+    unit_stored stored_all ends_line script_is_on style_shown streamed_all upper_printed units_of characters_of bytes_put words_from
     unicode_table words_at_table own_characters character code_from code_of shown shown_all standard_letters
     standard_characters split window_selected printed header_of word_at table_effect window_effect scanned row_at
-    rows_from rows_of places bytes_read cursor_set
+    rows_from rows_of places bytes_read cursor_set cleared unsplit
 output_examples = tt
 
 -- the definitions that are opened in saving examples
 unfoldable pub saving_examples : ⊤
 unfolding saving file_sum has_right_sum header_of unit_length carried_out effect_of routed operands_read
     operand_read variable_read variable_written named_written finished gone_on gone led continuation_after stored
-    first_windows popped with_local within_bounds sizes_of begun_again windows_closed settled again restarted
+    first_windows popped with_local within_bounds sizes_of begun_again made_roman windows_closed settled again restarted
     with_fields split window_selected printed character_printed cleared unsplit result_answered resumed returned
     branch_here branch_by code_byte branch_target offset_target left cell_at word_put
 saving_examples = tt
@@ -120,7 +121,7 @@ in_call_routine = tt
 
 -- the definitions that are opened in restart
 unfoldable pub in_restart : ⊤
-unfolding begun_again windows_closed bounds_of
+unfolding begun_again made_roman windows_closed bounds_of
 in_restart = tt
 
 -- the definitions that are opened in push

@@ -5,7 +5,7 @@ use Rattle.zk_step.specs.declared.state.ending.Ending.{Ending}
 use Rattle.zk_step.specs.declared.state.ending.Ending.TheVariants.{GoOn, Jump, Call, Return, Throw, Restart, Asks}
 use Rattle.zk_step.specs.declared.state.ending.Output.{Output}
 use Rattle.zk_step.specs.declared.state.ending.Output.TheVariants.{Nothing, Code, Character, Number, Text, Line, Rows}
-use Rattle.zk_step.specs.declared.state.ending.Output.TheVariants.{Status}
+use Rattle.zk_step.specs.declared.state.ending.Output.TheVariants.{Status, Erasure, Bleep}
 use Rattle.zk_step.specs.Printing.{IsPlainEnd, IsReady, IsPrintable}
 
 pub plain_by : (e : Ending) → IsPlainEnd e → ((x : ℕ) → e ≡ Return x → ⊥) → e ≡ GoOn None None
@@ -29,3 +29,5 @@ printable_parts before after (Text a) e h none = h
 printable_parts before after (Line a) e h none = h
 printable_parts before after (Rows r) e h none = h
 printable_parts before after Status e h none = h
+printable_parts before after Erasure e h none = h
+printable_parts before after (Bleep b) e h none = h

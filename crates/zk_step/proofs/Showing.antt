@@ -12,13 +12,13 @@ use Rattle.zk_step.specs.declared.state.ending.Next.{Next}
 use Rattle.zk_step.specs.declared.state.ending.Next.TheVariants.{At, Asks}
 use Rattle.zk_step.specs.declared.state.ending.Output.{Output}
 use Rattle.zk_step.specs.declared.state.ending.Output.TheVariants.{Nothing, Code, Character, Number, Text, Line, Rows}
-use Rattle.zk_step.specs.declared.state.ending.Output.TheVariants.{Status}
+use Rattle.zk_step.specs.declared.state.ending.Output.TheVariants.{Status, Erasure, Bleep}
 use Rattle.zk_step.specs.declared.state.game_state.GameState.{GameState}
 use Rattle.zk_step.specs.Finish.{finished}
 use Rattle.zk_step.specs.Instructions.{carried_out, HasBegun}
 use Rattle.zk_step.specs.Limited.{limited_next, limited_move, text_in}
 use Rattle.zk_step.specs.Printing.{IsPlainEnd, IsPrintable}
-use Rattle.zk_step.specs.Routing.{Texts, no_text, routed, text_routed}
+use Rattle.zk_step.specs.Routing.{Signals, no_signals, routed, text_routed}
 use Rattle.zk_step.proofs.Steps.{finish_refused, route_refused}
 use Rattle.zk_step.specs.Silence.{IsQuiet}
 use Rattle.zk_step.specs.Routes.{finished_after}
@@ -26,16 +26,16 @@ use Rattle.zk_step.proofs.Ends.{ends_as, prints_nothing}
 use Rattle.zk_step.proofs.WithinBounds.{next_is}
 
 -- an instruction that is not refused shows its texts
-pub told : (r : Result (GameState × (Next × Texts)) Refusal) (w : GameState) (n : Next) (t : Texts)
+pub told : (r : Result (GameState × (Next × Signals)) Refusal) (w : GameState) (n : Next) (t : Signals)
     → r ≡ Ok (w, (n, t)) → r ≡ Ok (w, (n, text_in r))
 told r w n t h = let same : text_in r ≡ t = ap text_in h in rw same h
 
-pub shown_text : (r : Result (GameState × (Next × Texts)) Refusal) (w : GameState) (n : Next) (t : Texts)
+pub shown_text : (r : Result (GameState × (Next × Signals)) Refusal) (w : GameState) (n : Next) (t : Signals)
     → r ≡ Ok (w, (n, t)) → text_in r ≡ t
 shown_text r w n t h = ap text_in h
 
 -- one that is refused shows nothing
-pub refused_text : (r : Result (GameState × (Next × Texts)) Refusal) (e : Refusal) → r ≡ Err e → text_in r ≡ no_text
+pub refused_text : (r : Result (GameState × (Next × Signals)) Refusal) (e : Refusal) → r ≡ Err e → text_in r ≡ no_signals
 refused_text r e h = ap text_in h
 
 -- memory stands as the instruction found it, or nothing is printed
@@ -49,6 +49,8 @@ printable_after before after (Text a) e h = (refl, rw h.0 h.1, h.2)
 printable_after before after (Line a) e h = (refl, rw h.0 h.1, h.2)
 printable_after before after (Rows r) e h = (refl, rw h.0 h.1, h.2)
 printable_after before after Status e h = (refl, rw h.0 h.1, h.2)
+printable_after before after Erasure e h = (refl, tt, h.2)
+printable_after before after (Bleep b) e h = (refl, tt, h.2)
 
 -- so its route is the same
 pub same_route : (before after : MemoryMap) (w : GameState) (o : Output) (e : Ending)
@@ -62,6 +64,8 @@ same_route before after w (Text a) e h = ap (λ (m : MemoryMap). routed m w (Tex
 same_route before after w (Line a) e h = ap (λ (m : MemoryMap). routed m w (Line a)) (sym h.0)
 same_route before after w (Rows r) e h = ap (λ (m : MemoryMap). routed m w (Rows r)) (sym h.0)
 same_route before after w Status e h = ap (λ (m : MemoryMap). routed m w Status) (sym h.0)
+same_route before after w Erasure e h = refl
+same_route before after w (Bleep b) e h = refl
 
 -- an instruction that has begun is refused as its route and its finish are
 pub stopped_there : (w : GameState) (i : Instr) (vs : List ℕ) (w2 : GameState) (e : Effect) (r : Refusal)
@@ -69,25 +73,25 @@ pub stopped_there : (w : GameState) (i : Instr) (vs : List ℕ) (w2 : GameState)
     → limited_move (carried_out w i) ≡ Err r
 stopped_there w i vs w2 e r begun h = go (routed w.memory w2 e.output) refl h
   where
-    go : (q : Result (GameState × Texts) Fault) → routed w.memory w2 e.output ≡ q
+    go : (q : Result (GameState × Signals) Fault) → routed w.memory w2 e.output ≡ q
         → limited_next (finished_after q i vs e.ending) ≡ Err r → limited_move (carried_out w i) ≡ Err r
     go (Ok (w3, t)) is k = finish_refused w i vs w2 e w3 t r begun is k
     go (Err f) is k = let same : refusal.Fault f ≡ r = cc in route_refused w i vs w2 e f begun is ∙ ap Err same
 
 -- an instruction that is refused has shown nothing
-pub shown_nothing : {S : Type 0} (shows : S → S → List ℕ → List ℕ → Type 0) (t : Texts)
+pub shown_nothing : {S : Type 0} (shows : S → S → Signals → Type 0) (t : Signals)
     (r : Result (GameState × Next) Refusal) (e : Refusal) (a b : S)
-    → (t ≡ no_text) ⊎ IsOk r → r ≡ Err e → shows a b t.screen t.script → shows a b [] []
+    → (t ≡ no_signals) ⊎ IsOk r → r ≡ Err e → shows a b t → shows a b []
 shown_nothing {S} shows t r e a b (inl none) h k = rw none at k
 shown_nothing {S} shows t r e a b (inr ok) h k = let never = rw h at ok in absurd (search rules)
 
 -- an instruction that asks something of the machine shows nothing
-silent : (m : MemoryMap) (w : GameState) (o : Output) → o ≡ Nothing → text_routed (routed m w o) ≡ no_text
+silent : (m : MemoryMap) (w : GameState) (o : Output) → o ≡ Nothing → text_routed (routed m w o) ≡ no_signals
 unfolding routed
 silent m w o h = rw h refl
 
 quiet_by : (m : MemoryMap) (w : GameState) (before after : MemoryMap) (e : Effect) (end : Ending) → e.ending ≡ end
-    → (IsPlainEnd end → ⊥) → IsPrintable before after e.output e.ending → text_routed (routed m w e.output) ≡ no_text
+    → (IsPlainEnd end → ⊥) → IsPrintable before after e.output e.ending → text_routed (routed m w e.output) ≡ no_signals
 quiet_by m w before after e end is other ready =
     silent m w e.output (prints_nothing before after e.output e.ending
     (λ plain. other (subst IsPlainEnd is plain)) ready)

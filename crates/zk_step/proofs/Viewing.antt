@@ -1,20 +1,34 @@
 -- The rows of the upper window and the status line, line by line.
-use Rattle.std.proofs.Common.{◌≡◌, ◌∙◌, ◌<◌, ℕ, zero, suc, ◌+◌, true, List, [], ◌∷◌, ◌++◌, length, take, get_or, refl}
+use Rattle.std.proofs.Common.{◌≡◌, ◌∙◌, ◌<◌, ℕ, zero, suc, ◌+◌, true, false, List, [], ◌∷◌, ◌++◌, length, take, get_or, refl}
 use Rattle.std.proofs.Common.{sym, ap, subst, arith, append_assoc, append-nil}
-use Rattle.std.proofs.lemmas.List.{take_more}
+use Rattle.std.proofs.lemmas.List.{map-append, take_more}
+use Rattle.zk_term.specs.Signals.Signal.{Text}
+use Rattle.zk_term.specs.Styles.{roman}
 use Rattle.zk_term.specs.Windows.{Windows, row_text}
 use Rattle.zk_step.specs.declared.state.game_state.GameState.{GameState}
-use Rattle.zk_step.specs.Routing.{on_screen, fresh_line, with_line_start}
+use Rattle.zk_step.specs.Routing.{Signals, on_screen, fresh_line, streamed_all, with_line_start}
 use Rattle.zk_step.specs.View.{rows_shown, lines_shown}
 
+pub on_screen-append : (x y : List ℕ) → on_screen (x ++ y) ≡ on_screen x ++ on_screen y
+on_screen-append x y = map-append (λ (c : ℕ). Text c roman) x y
+
+-- on the screen alone characters are in no style
+pub streamed_alone : (cs : List ℕ) → streamed_all (record { screen = true; script = false; style = roman }) cs
+    ≡ on_screen cs
+unfolding streamed_all
+streamed_alone [] = refl
+streamed_alone (c ∷ cs) = ap (λ (l : Signals). Text c roman ∷ l) (streamed_alone cs)
+
 -- one more character
-pub next_on_screen : {S : Type 0} (shows : S → S → List ℕ → List ℕ → Type 0)
-    (twice : (a b c : S) (s t u v : List ℕ) → shows a b s u → shows b c t v → shows a c (s ++ t) (u ++ v))
-    (old now new : S) (cs : List ℕ) (i c : ℕ) → i < length cs → c ≡ get_or cs i c → shows old now (take i cs) []
-    → shows now new (c ∷ []) [] → shows old new (take (i + 1) cs) []
+pub next_on_screen : {S : Type 0} (shows : S → S → Signals → Type 0)
+    (twice : (a b c : S) (s t : Signals) → shows a b s → shows b c t → shows a c (s ++ t))
+    (old now new : S) (cs : List ℕ) (i c : ℕ) → i < length cs → c ≡ get_or cs i c → shows old now (on_screen (take i cs))
+    → shows now new (on_screen (c ∷ [])) → shows old new (on_screen (take (i + 1) cs))
 next_on_screen {S} shows twice old now new cs i c lt is h one =
-    subst (λ (t : List ℕ). shows old new t []) (ap (λ (x : ℕ). take i cs ++ x ∷ []) is
-    ∙ sym (take_more cs i c lt)) (twice old now new (take i cs) (c ∷ []) [] [] h one)
+    let more : on_screen (take (i + 1) cs) ≡ on_screen (take i cs) ++ on_screen (c ∷ []) =
+    ap on_screen (take_more cs i c lt ∙ ap (λ (x : ℕ). take i cs ++ x ∷ []) (sym is))
+    ∙ on_screen-append (take i cs) (c ∷ []) in
+    rw more (twice old now new _ _ h one)
 
 -- a row on a line
 abbrev pub row_line : Windows → ℕ → List ℕ

@@ -31,17 +31,10 @@ use Rattle.zk_step.specs.Instructions.{carried_out}
 use Rattle.zk_step.specs.Limited.{limited_move, limited_next, text_in}
 use Rattle.zk_step.specs.Silence.{IsQuiet}
 use Rattle.zk_step.specs.Printing.{IsLong, IsPlainEnd, characters_of, rows_or_none, units_of, units_or_none}
-use Rattle.zk_step.specs.Routing.{Texts, ends_line, no_text, printed_if, rows_printed, script_is_on, shown_if}
-use Rattle.zk_step.specs.Routing.{stored_all, upper_printed, with_line_start}
+use Rattle.zk_step.specs.Routing.{Signals, ends_line, no_signals, printed_if, rows_printed, selected_in, shown_if}
+use Rattle.zk_step.specs.Routing.{stored_all, streamed_all, upper_printed, with_line_start}
 use Rattle.zk_step.specs.Streams.{newest_of}
 use Rattle.zk_step.specs.Variables.{operands_read, with_frames}
-
--- the first characters of a text, on each stream, and the others
-abbrev pub text_first : ℕ → Texts → Texts
-text_first n t = record { screen = take n t.screen; script = take n t.script }
-
-abbrev pub text_later : ℕ → Texts → Texts
-text_later n t = record { screen = drop n t.screen; script = drop n t.script }
 
 -- ---- what is still to come
 
@@ -108,24 +101,24 @@ upper_rest on m column (Text place line) w =
 upper_rest on m column (Rows r row) w = upper_rows on (own_characters m) column row (rest_rows m r row) w
 
 -- characters for the screen and the transcript, while they are on
-abbrev pub streamed_text : GameState → List ℕ → Texts
-streamed_text w cs = record { screen = shown_if w.streams.screen cs; script = shown_if (script_is_on w.memory) cs }
+abbrev pub streamed_text : GameState → List ℕ → Signals
+streamed_text w cs = streamed_all (selected_in w.memory w) cs
 
 -- the text of the screen and the transcript that is still to come; tables and the upper window show none
-abbrev pub rest_text_by : Option OpenTable → Window → GameState → List text.Unit → Texts
+abbrev pub rest_text_by : Option OpenTable → Window → GameState → List text.Unit → Signals
 rest_text_by None Lower w us = streamed_text w (shown_all (own_characters w.memory) us)
-rest_text_by None Upper w us = no_text
-rest_text_by (Some t) window w us = no_text
+rest_text_by None Upper w us = no_signals
+rest_text_by (Some t) window w us = no_signals
 
-abbrev pub rest_text : GameState → Rest → Texts
+abbrev pub rest_text : GameState → Rest → Signals
 rest_text w rest = rest_text_by (newest_of w.streams.tables) w.windows.selected w (rest_units w.memory rest)
 
--- a screen and a transcript got the first characters of a text, and others are still to come
-pub record ShowsSome {S : Type 0} (shows : S → S → List ℕ → List ℕ → Type 0) (a b : S)
-    (whole later : Texts) : Type 0 where
+-- a screen got the first signals of some, and the others are still to come
+pub record ShowsSome {S : Type 0} (shows : S → S → Signals → Type 0) (a b : S)
+    (whole later : Signals) : Type 0 where
   pub count : ℕ
-  pub shown : shows a b (text_first count whole).screen (text_first count whole).script
-  pub is : later ≡ text_later count whole
+  pub shown : shows a b (take count whole)
+  pub is : later ≡ drop count whole
 
 -- ---- instructions in the middle
 
@@ -193,16 +186,16 @@ IsDone (Done n) = Unit {0}
 IsDone (Part h) = ⊥
 
 -- the text of an instruction that is still to come: all of it, or the rest
-abbrev pub text_due : GameState → Instr → Option Half → Texts
+abbrev pub text_due : GameState → Instr → Option Half → Signals
 text_due w i None = text_in (limited_move (carried_out w i))
 text_due w i (Some h) = rest_text w h.rest
 
 -- and what is to come then
-abbrev pub text_then : GameState → Progress → Texts
-text_then w (Done n) = no_text
+abbrev pub text_then : GameState → Progress → Signals
+text_then w (Done n) = no_signals
 text_then w (Part h) = rest_text w h.rest
 
 -- what asks something of the machine has shown nothing
-abbrev pub IsQuietAs : Progress → Texts → Type 0
+abbrev pub IsQuietAs : Progress → Signals → Type 0
 IsQuietAs (Done n) text = IsQuiet n text
 IsQuietAs (Part h) text = Unit {0}

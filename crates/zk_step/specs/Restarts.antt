@@ -2,6 +2,7 @@
 use Rattle.std.specs.Prelude.{[]}
 use Rattle.zk_mem.specs.Again.{restarted}
 use Rattle.zk_state.specs.Frames.{first_frames}
+use Rattle.zk_term.specs.Styles.{roman}
 use Rattle.zk_term.specs.Windows.{unsplit}
 use Rattle.zk_step.specs.declared.state.game_state.GameState.{GameState}
 
@@ -10,11 +11,16 @@ use Rattle.zk_step.specs.declared.state.game_state.GameState.{GameState}
 unfoldable pub windows_closed : GameState → GameState
 windows_closed w = record w { windows = unsplit w.windows; streams = record w.streams { tables = [] } }
 
--- memory is put back, and the first frame stands alone; random numbers and what else the game state has go on
+-- text is roman
+unfoldable pub made_roman : GameState → GameState
+made_roman w = record w { windows = record w.windows { style = roman } }
+
+-- memory is put back, the first frame stands alone, and text is roman; random numbers and what else the game state has
+-- go on
 unfoldable pub begun_again : GameState → GameState
 begun_again w =
-    windows_closed (record w {
+    made_roman (windows_closed (record w {
       memory = restarted w.memory;
       frames = first_frames w.frames.most_frames
           w.frames.most_words;
-    })
+    }))

@@ -1,6 +1,6 @@
 -- Where an instruction's text goes (Standard, sections 7.1 and 8.6).
 use Rattle.std.specs.Prelude.{Bool, true, false, ℕ, ◌+◌, List, [], ◌∷◌, ◌++◌, length, Option, Some, None, Result, Ok}
-use Rattle.std.specs.Prelude.{Err, if◌then◌else◌, ◌==◌, ◌||◌, ◌%◌, is_some, unwrap_or}
+use Rattle.std.specs.Prelude.{Err, if◌then◌else◌, ◌==◌, ◌||◌, ◌/◌, ◌%◌, is_some, map, unwrap_or}
 use Rattle.zk_mem.specs.declared.fault.Fault.{Fault}
 use Rattle.zk_mem.specs.Map.{MemoryMap, byte_at}
 use Rattle.zk_mem.specs.Results.{◌>>=◌}
@@ -10,11 +10,16 @@ use Rattle.zk_text.specs.Extra.{ExtraTable, own_characters, character, code_of}
 use Rattle.zk_text.specs.Shown.{shown_all}
 use Rattle.zk_term.specs.declared.windows.Window.{Window}
 use Rattle.zk_term.specs.declared.windows.Window.TheVariants.{Lower, Upper}
+use Rattle.zk_term.specs.Signals.{Signal}
+use Rattle.zk_term.specs.Signals.Signal.{Text, Script, Erase, Beep}
+use Rattle.zk_term.specs.Styles.{roman}
+use Rattle.zk_term.specs.declared.style.Style.{Style}
 use Rattle.zk_term.specs.Windows.{Windows, printed, next_row}
 use Rattle.zk_tables.specs.Rectangles.{rows_of, row_units}
 use Rattle.zk_tables.specs.Runs.{bytes_put}
 use Rattle.zk_step.specs.declared.state.ending.Output.{Output}
-use Rattle.zk_step.specs.declared.state.ending.Output.TheVariants.{Nothing, Status, Rows}
+use Rattle.zk_step.specs.declared.output.printer.Selected.{Selected}
+use Rattle.zk_step.specs.declared.state.ending.Output.TheVariants.{Nothing, Status, Rows, Erasure, Bleep}
 use Rattle.zk_step.specs.declared.output.streams.OpenTable.{OpenTable}
 use Rattle.zk_step.specs.declared.state.game_state.GameState.{GameState}
 use Rattle.zk_step.specs.Printing.{units_of, characters_of, rows_or_none}
@@ -23,26 +28,21 @@ use Rattle.zk_step.specs.Status.{status_units}
 use Rattle.zk_step.specs.Streams.{counted, newest_of}
 use Rattle.zk_step.specs.Variables.{with_memory}
 
--- characters for the screen, and for the transcript
-pub record Texts : Type 0 where
-  pub screen : List ℕ
-  pub script : List ℕ
+-- what a step gives to a screen, in order
+abbrev pub Signals : Type 0
+Signals = List Signal
 
 -- nothing is shown
-abbrev pub no_text : Texts
-no_text = record { screen = []; script = [] }
+abbrev pub no_signals : Signals
+no_signals = []
 
--- a text after another
-abbrev pub text_joined : Texts → Texts → Texts
-text_joined s t = record { screen = s.screen ++ t.screen; script = s.script ++ t.script }
+-- characters on the screen, in no style
+abbrev pub on_screen : List ℕ → Signals
+on_screen characters = map (λ (c : ℕ). Text c roman) characters
 
--- characters on the screen alone
-abbrev pub on_screen : List ℕ → Texts
-on_screen characters = record { screen = characters; script = [] }
-
--- characters for the transcript alone
-abbrev pub on_script : List ℕ → Texts
-on_script characters = record { screen = []; script = characters }
+-- characters for the transcript
+abbrev pub on_script : List ℕ → Signals
+on_script characters = map Script characters
 
 -- ---- the screen's last character
 
@@ -113,45 +113,64 @@ upper_printed on m output w = printed_if on (characters_of m output) w
 
 -- ---- streams 1 and 2
 
--- characters, or none
-abbrev pub shown_if : Bool → List ℕ → List ℕ
-shown_if on cs = if on then cs else []
+-- some, or none
+abbrev pub shown_if : {A : Type 0} → Bool → List A → List A
+shown_if {A} on xs = if on then xs else []
 
--- bit 0 of a byte is set
+-- bit 0 of a byte is set, and bit 1
 abbrev pub is_bit_0_set : Result ℕ Fault → Bool
 is_bit_0_set (Ok flags) = flags % 2 == 1
 is_bit_0_set (Err f) = false
+
+abbrev pub is_bit_1_set : Result ℕ Fault → Bool
+is_bit_1_set (Ok flags) = flags / 2 % 2 == 1
+is_bit_1_set (Err f) = false
 
 -- the transcript is on (section 7.4)
 unfoldable pub script_is_on : MemoryMap → Bool
 script_is_on m = is_bit_0_set (byte_at m flags_2)
 
+-- the style that is set, with a fixed pitch while bit 1 of Flags 2 is (sections 8.7.1 and 11.1.2)
+unfoldable pub style_shown : MemoryMap → Style → Style
+style_shown m style = record style { fixed = style.fixed || is_bit_1_set (byte_at m flags_2) }
+
+-- the streams that are on, and the style of the text that they get
+abbrev pub selected_in : MemoryMap → GameState → Selected
+selected_in found w = record {
+  screen = w.streams.screen;
+  script = script_is_on found;
+  style = style_shown found w.windows.style;
+}
+
+-- a character on the streams that are on
+abbrev pub character_streamed : Selected → ℕ → Signals
+character_streamed on c = shown_if on.screen (Text c on.style ∷ []) ++ shown_if on.script (Script c ∷ [])
+
+-- characters there, one after the other
+unfoldable pub streamed_all : Selected → List ℕ → Signals
+streamed_all on [] = []
+streamed_all on (c ∷ cs) = character_streamed on c ++ streamed_all on cs
+
 -- the screen and the transcript get characters while they are on
-abbrev pub streamed : MemoryMap → GameState → List ℕ → GameState × Texts
-streamed found w cs = (
-  with_shown (shown_if w.streams.screen cs) w,
-  record {
-    screen = shown_if w.streams.screen cs;
-    script = shown_if (script_is_on found) cs;
-  },
-)
+abbrev pub streamed : MemoryMap → GameState → List ℕ → GameState × Signals
+streamed found w cs = (with_shown (shown_if w.streams.screen cs) w, streamed_all (selected_in found w) cs)
 
 -- ---- the route of a text
 
 -- text of the lower window goes to the screen and the transcript, text of the upper one to its grid
-abbrev pub routed_to : Window → MemoryMap → GameState → Output → Result (GameState × Texts) Fault
+abbrev pub routed_to : Window → MemoryMap → GameState → Output → Result (GameState × Signals) Fault
 routed_to Lower found w output = Ok (streamed found w (characters_of found output))
 routed_to Upper found w output =
-    Ok (record w { windows = upper_printed w.streams.screen found output w.windows }, no_text)
+    Ok (record w { windows = upper_printed w.streams.screen found output w.windows }, no_signals)
 
 -- while a table is open it alone gets the text
-abbrev pub routed_by : Option OpenTable → MemoryMap → GameState → Output → Result (GameState × Texts) Fault
+abbrev pub routed_by : Option OpenTable → MemoryMap → GameState → Output → Result (GameState × Signals) Fault
 routed_by None found w output = routed_to w.windows.selected found w output
 routed_by (Some t) found w output =
-    table_filled w t (stored_all (own_characters found) (units_of found output)) >>= λ w'. Ok (w', no_text)
+    table_filled w t (stored_all (own_characters found) (units_of found output)) >>= λ w'. Ok (w', no_signals)
 
 -- the status line stands on a line of its own
-abbrev pub status_shown : MemoryMap → GameState → Result (List text.Unit) Fault → Result (GameState × Texts) Fault
+abbrev pub status_shown : MemoryMap → GameState → Result (List text.Unit) Fault → Result (GameState × Signals) Fault
 status_shown found w (Err f) = Err f
 status_shown found w (Ok units) =
     Ok (
@@ -161,13 +180,15 @@ status_shown found w (Ok units) =
     )
 
 -- What is printed is read from memory as the instruction found it. The status line is no printed text: it goes to the
--- screen whatever the streams and windows are.
-unfoldable pub routed : MemoryMap → GameState → Output → Result (GameState × Texts) Fault
-routed found w Nothing = Ok (w, no_text)
+-- screen whatever the streams and windows are, and so do erasures and bleeps.
+unfoldable pub routed : MemoryMap → GameState → Output → Result (GameState × Signals) Fault
+routed found w Nothing = Ok (w, no_signals)
 routed found w Status = status_shown found w (status_units found)
+routed found w Erasure = Ok (w, Erase ∷ [])
+routed found w (Bleep bleep) = Ok (w, Beep bleep ∷ [])
 routed found w output = routed_by (newest_of w.streams.tables) found w output
 
 -- the texts of a route, none of one that is refused
-abbrev pub text_routed : Result (GameState × Texts) Fault → Texts
+abbrev pub text_routed : Result (GameState × Signals) Fault → Signals
 text_routed (Ok r) = r.1
-text_routed (Err f) = no_text
+text_routed (Err f) = no_signals

@@ -10,7 +10,7 @@ use Rattle.zk_term.specs.Windows.{Windows, row_text}
 use Rattle.zk_step.specs.declared.state.game_state.View.{View}
 use Rattle.zk_step.specs.declared.state.game_state.View.TheVariants.{Plain, Upper}
 use Rattle.zk_step.specs.declared.state.game_state.GameState.{GameState}
-use Rattle.zk_step.specs.Routing.{Texts, no_text, on_screen, fresh_line, with_line_start}
+use Rattle.zk_step.specs.Routing.{Signals, no_signals, on_screen, fresh_line, with_line_start}
 use Rattle.zk_step.specs.Status.{status_units}
 
 -- so many rows of the upper window, from a row on, each on a line after a bar and a space
@@ -24,15 +24,15 @@ status_text m =
     if m.version == 3 then (status_units m >>= λ units. Ok (shown_all (own_characters m) units ++ 10 ∷ [])) else Ok []
 
 -- lines on the screen, where there are some, after a new line unless the last character was one
-unfoldable pub lines_shown : GameState → List ℕ → GameState × Texts
-lines_shown w [] = (w, no_text)
+unfoldable pub lines_shown : GameState → List ℕ → GameState × Signals
+lines_shown w [] = (w, no_signals)
 lines_shown w (c ∷ cs) = (with_line_start true w, on_screen (fresh_line w.at_line_start ++ c ∷ cs))
 
 -- the status line and the rows of the upper window, by the view
-abbrev pub viewed_by : View → GameState → Result (GameState × Texts) Fault
-viewed_by Plain w = Ok (w, no_text)
+abbrev pub viewed_by : View → GameState → Result (GameState × Signals) Fault
+viewed_by Plain w = Ok (w, no_signals)
 viewed_by Upper w =
     status_text w.memory >>= λ status. Ok (lines_shown w (status ++ rows_shown w.windows 1 w.windows.height))
 
-unfoldable pub viewed : GameState → Result (GameState × Texts) Fault
+unfoldable pub viewed : GameState → Result (GameState × Signals) Fault
 viewed w = viewed_by w.view w

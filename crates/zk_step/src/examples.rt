@@ -22,7 +22,7 @@ ghost use Rattle.zk_step.specs.guards.RoutineExamples.{Quits, PassesTheOperandsB
 ghost use Rattle.zk_step.specs.guards.ObjectExamples.{FindsRelatives, AttributesOfObjects, ObjectsMove};
 ghost use Rattle.zk_step.specs.guards.ObjectExamples.{PropertiesOfObjects, PropertiesHavePlaces, PrintsNames};
 ghost use Rattle.zk_step.specs.guards.PrintingExamples.{PrintsWhat, ShowsCodes, ShowsSignedNumbers, PrintsTexts};
-ghost use Rattle.zk_step.specs.guards.PrintingExamples.{PrintsAndReturns, FontsAndColours, UnicodeAnswers};
+ghost use Rattle.zk_step.specs.guards.PrintingExamples.{PrintsAndReturns, ColoursAndBuffering, UnicodeAnswers};
 ghost use Rattle.zk_step.specs.guards.ReadingExamples.{EarlyLinesEndWithAZero, EarlyRoomIsOneLess};
 ghost use Rattle.zk_step.specs.guards.ReadingExamples.{LaterLinesAreCounted, LaterLinesGoOn, FullBuffersStay};
 ghost use Rattle.zk_step.specs.guards.ReadingExamples.{CountsAreStored, LinesAreLowered, EarlyLinesInOrder};
@@ -142,7 +142,7 @@ pub fn printing_by_example()
 
 /// What does nothing, and its answers (Standard, sections 8 and 15).
 pub fn idle_by_example()
-    ensures fonts_and_colours { FontsAndColours }
+    ensures colours_and_buffering { ColoursAndBuffering }
     ensures unicode_answers { UnicodeAnswers }
 {}
 

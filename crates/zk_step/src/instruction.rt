@@ -11,7 +11,7 @@ ghost use Rattle.zk_step.specs.Halves.{rest_text, text_due, text_then};
 ghost use Rattle.zk_step.specs.Instructions.{carried_out, HasBegun};
 ghost use Rattle.zk_step.specs.Limited.{limited_next, limited_move, text_in};
 ghost use Rattle.zk_step.specs.Printing.{IsLong, IsPlainEnd, IsPrintable};
-ghost use Rattle.zk_step.specs.Routing.{Texts, with_line_start};
+ghost use Rattle.zk_step.specs.Routing.{Signals, with_line_start};
 ghost use Rattle.zk_step.specs.Silence.{IsQuiet};
 ghost use Rattle.zk_step.specs.Variables.{operands_read};
 
@@ -108,8 +108,7 @@ fn complete<S: Screen>(
     ensures text { (found : GameState) → HasBegun found i.now game.old begun.now.values begun.now.effect
         → IsPrintable found.memory game.old.memory begun.now.effect.output begun.now.effect.ending
         → S.shows screen.old screen.new
-        (text_in (limited_move (carried_out found i.now))).screen
-        (text_in (limited_move (carried_out found i.now))).script }
+        (text_in (limited_move (carried_out found i.now))) }
 {
     match route(game, i, begun, codes, screen) {
         Ok(()) => {}
@@ -138,8 +137,7 @@ pub fn carry_out<S: Screen>(
         (λ n. IsQuiet n (text_in (limited_move (carried_out game.old i.now)))) }
     ensures bounds { bounds_of game.new.frames ≡ bounds_of game.old.frames }
     ensures text { S.shows screen.old screen.new
-        (text_in (limited_move (carried_out game.old i.now))).screen
-        (text_in (limited_move (carried_out game.old i.now))).script }
+        (text_in (limited_move (carried_out game.old i.now))) }
 {
     let begun = match begin(game, i) {
         Ok(begun) => begun,
@@ -178,11 +176,11 @@ fn go_on<S: Screen>(
         → effect_of game.old i.now begun.now.values ≡ Ok (game.old, begun.now.effect)
         → MatchResult result (λ p. IsCarriedOn found game.new i.now codes.new draft.new p)
         (λ e. limited_move (carried_out found i.now) ≡ Err e) }
-    ensures quiet { IfOk result (λ p. (text : Texts) → IsQuietAs p text) }
+    ensures quiet { IfOk result (λ p. (text : Signals) → IsQuietAs p text) }
     ensures whole { words ≡ None → IfOk result IsDone }
     ensures text { MatchResult result (λ p. ShowsSome S.shows screen.old screen.new
         (rest_text game.old half.rest) (text_then game.old p))
-        (λ _. S.shows screen.old screen.new [] []) }
+        (λ _. S.shows screen.old screen.new []) }
     ensures bounds { bounds_of game.new.frames ≡ bounds_of game.old.frames }
 {
     match route_part(game, i, begun, &mut half, codes, draft, screen, words) {
@@ -215,7 +213,7 @@ fn start_part<S: Screen>(
     ensures whole { words ≡ None → IfOk result IsDone }
     ensures text { MatchResult result (λ p. ShowsSome S.shows screen.old screen.new
         (text_in (limited_move (carried_out game.old i.now))) (text_then game.old p))
-        (λ _. S.shows screen.old screen.new [] []) }
+        (λ _. S.shows screen.old screen.new []) }
     ensures bounds { bounds_of game.new.frames ≡ bounds_of game.old.frames }
 {
     let begun = match begin(game, i) {
@@ -255,7 +253,7 @@ pub fn carry_out_part<S: Screen>(
     ensures whole { words ≡ None → IfOk result IsDone }
     ensures text { MatchResult result (λ p. ShowsSome S.shows screen.old screen.new
         (text_due game.old i.now half.now) (text_then game.old p))
-        (λ _. S.shows screen.old screen.new [] []) }
+        (λ _. S.shows screen.old screen.new []) }
     ensures bounds { bounds_of game.new.frames ≡ bounds_of game.old.frames }
 {
     game.frames.is_bounded();

@@ -5,6 +5,7 @@ ghost use Rattle.zk_step.specs.guards.OutputExamples.{StreamsAreSelected, Tables
 ghost use Rattle.zk_step.specs.guards.OutputExamples.{CodesAreStored, LinesBegin, OpenTablesTakeText, StreamsShowText};
 ghost use Rattle.zk_step.specs.guards.OutputExamples.{UpperTextStaysThere, TablesAreSearched, RectanglesArePrinted};
 ghost use Rattle.zk_step.specs.guards.OutputExamples.{WindowsAreChanged, CursorsAreTold, StatusLinesNeedTheView};
+ghost use Rattle.zk_step.specs.guards.OutputExamples.{StylesAreShown, StylesFontsAndBleeps, WindowsAreErased};
 
 /// Random numbers (Standard, section 15, `random`).
 #[tactic(auto, unfolding(crate::specs::Random::randomised))]
@@ -29,6 +30,7 @@ pub fn routes_by_example()
     ensures lines_begin { LinesBegin }
     ensures tables_take_text { OpenTablesTakeText }
     ensures streams_show_text { StreamsShowText }
+    ensures styles_are_shown { StylesAreShown }
     ensures upper_text { UpperTextStaysThere }
 {}
 
@@ -38,6 +40,8 @@ pub fn tables_and_windows_by_example()
     ensures tables_are_searched { TablesAreSearched }
     ensures rectangles { RectanglesArePrinted }
     ensures windows_change { WindowsAreChanged }
+    ensures erased { WindowsAreErased }
+    ensures styles { StylesFontsAndBleeps }
     ensures cursors { CursorsAreTold }
     ensures status_lines { StatusLinesNeedTheView }
 {}

@@ -4,7 +4,9 @@ use Rattle.std.proofs.Common.{◌≡◌, ◌∙◌, ℕ, Bool, true, false, List
 use Rattle.std.proofs.Common.{refl, ap}
 use Rattle.std.proofs.lemmas.Str.{encodes-append}
 use Rattle.std.proofs.KnownBytes.{Appends-nil, Appends-trans}
+use Rattle.std.proofs.lemmas.List.Elements.{filter_map-append}
 use Rattle.zk_term.specs.Devices.{Sender, Sends, Sent}
+use Rattle.zk_term.specs.Signals.{Signal, screen_text, script_in, script_text, text_in}
 
 -- the bytes that the screen's and the transcript's target took and those that wait to go there, whether the screen over
 -- them has met a failed write, and whether one of the targets has
@@ -84,3 +86,10 @@ written_twice a b c s t u v h k = record {
   script_sent = sends_twice _ _ _ u v h.script_sent k.script_sent;
   known = λ e. k.known (h.known e);
 }
+
+-- signals are sent one list after the other
+pub signals_written_twice : (a b c : Targets) (s t : List Signal) → Written a b (screen_text s) (script_text s)
+    → Written b c (screen_text t) (script_text t) → Written a c (screen_text (s ++ t)) (script_text (s ++ t))
+signals_written_twice a b c s t h k =
+    rw (filter_map-append text_in s t, filter_map-append script_in s t)
+    (written_twice a b c (screen_text s) (screen_text t) (script_text s) (script_text t) h k)

@@ -10,6 +10,7 @@ use Rattle.std.proofs.lemmas.List.FromFn.{get_or-map-range_with_len}
 use base.Stored.{coded_via}
 use mathlib.Core.HLevel.{is_prop→PathP}
 use Rattle.zk_term.specs.Grid.{Cells, is_on_grid, blank}
+use Rattle.zk_term.specs.declared.style.Style.{Style}
 use Rattle.zk_term.specs.declared.windows.Window.{Window}
 use Rattle.zk_term.specs.declared.windows.Window.TheVariants.{Lower, Upper}
 use Rattle.zk_term.specs.Windows.{Windows}
@@ -91,20 +92,28 @@ window_back Upper = refl
 abbrev window_code : Coded Window
 window_code = code_by Bool coded_bool is_upper (λ b. cond b Upper Lower) window_back
 
+abbrev style_code : Coded Style
+style_code =
+    code_by (Bool × (Bool × (Bool × Bool))) (coded× coded_bool (coded× coded_bool (coded× coded_bool coded_bool)))
+    (λ s. (s.reverse, (s.bold, (s.italic, s.fixed))))
+    (λ p. record { reverse = p.0; bold = p.1.0; italic = p.1.1.0; fixed = p.1.1.1 }) (λ _. refl)
+
 -- the windows are stored field by field
 abbrev pub windows_code : Coded Windows
 windows_code =
-    code_by (Cells × (ℕ × (ℕ × (ℕ × (Window × (Cells × ℕ))))))
+    code_by (Cells × (ℕ × (ℕ × (ℕ × (Window × (Style × (Cells × ℕ)))))))
     (coded× cells_code
-    (coded× coded_ℕ (coded× coded_ℕ (coded× coded_ℕ (coded× window_code (coded× cells_code coded_ℕ))))))
-    (λ w. (w.cells, (w.height, (w.row, (w.column, (w.selected, (w.gone, w.gone_height)))))))
+    (coded× coded_ℕ (coded× coded_ℕ (coded× coded_ℕ (coded× window_code (coded× style_code
+    (coded× cells_code coded_ℕ)))))))
+    (λ w. (w.cells, (w.height, (w.row, (w.column, (w.selected, (w.style, (w.gone, w.gone_height))))))))
     (λ p. record {
       cells = p.0;
       height = p.1.0;
       row = p.1.1.0;
       column = p.1.1.1.0;
       selected = p.1.1.1.1.0;
-      gone = p.1.1.1.1.1.0;
-      gone_height = p.1.1.1.1.1.1;
+      style = p.1.1.1.1.1.0;
+      gone = p.1.1.1.1.1.1.0;
+      gone_height = p.1.1.1.1.1.1.1;
     })
     (λ _. refl)

@@ -3,24 +3,36 @@
 use Rattle.std.specs.Prelude.{Bool, true, ℕ, zero, suc, ◌+◌, List, [], ◌∷◌, map, if◌then◌else◌, ◌==◌, ◌&&◌, nat_lt}
 use Rattle.std.specs.Prelude.{nat_le, min, max}
 use Rattle.zk_term.specs.Grid.{Cells, blank, no_cells, emptied, cell_put}
+use Rattle.zk_term.specs.Styles.{roman}
+use Rattle.zk_term.specs.declared.style.Style.{Style}
 use Rattle.zk_term.specs.declared.windows.Window.{Window}
 use Rattle.zk_term.specs.declared.windows.Window.TheVariants.{Lower, Upper}
 
--- the cells, how many rows are shown, the row and column of the cursor, and the window that is selected; the cells and
--- the height of the tallest grid that has gone, or has become lower, since one was last forgotten
+-- the cells, how many rows are shown, the row and column of the cursor, the window that is selected, and the text style
+-- that is set; the cells and the height of the tallest grid that has gone, or has become lower, since one was last
+-- forgotten
 pub record Windows : Type 0 where
   pub cells : Cells
   pub height : ℕ
   pub row : ℕ
   pub column : ℕ
   pub selected : Window
+  pub style : Style
   pub gone : Cells
   pub gone_height : ℕ
 
--- at the start the upper window has no row, and the lower one is selected (section 8.7.2)
+-- at the start the upper window has no row, the lower one is selected (section 8.7.2), and text is roman
 unfoldable pub first_windows : Windows
-first_windows =
-    record { cells = no_cells; height = 0; row = 1; column = 1; selected = Lower; gone = no_cells; gone_height = 0 }
+first_windows = record {
+  cells = no_cells;
+  height = 0;
+  row = 1;
+  column = 1;
+  selected = Lower;
+  style = roman;
+  gone = no_cells;
+  gone_height = 0;
+}
 
 -- the cursor goes to the top left
 abbrev pub homed : Windows → Windows

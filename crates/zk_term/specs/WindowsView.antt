@@ -12,6 +12,7 @@ windows_of w = record {
   row = w.row;
   column = w.column;
   selected = w.selected;
+  style = w.style;
   gone = cells_of w.gone.items;
   gone_height = w.gone_height;
 }

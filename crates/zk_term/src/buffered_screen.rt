@@ -5,10 +5,11 @@ ghost use Rattle.zk_term.specs.BufferedScreens.{Written};
 
 use crate::byte_buffer::ByteBuffer;
 use crate::screen::Screen;
+use crate::style::{Bleep, Style};
 use crate::target::{Failed, Target};
 
-/// Collects the UTF-8 of each character, and gives it to its target where there is much of it, and at `finish`. Once a
-/// write has failed nothing more is written to either target.
+/// Collects the UTF-8 of each character, and gives it to its target where there is much of it, and at `finish`. It passes
+/// over styles, erasures and bleeps. Once a write has failed nothing more is written to either target.
 #[derive(Drop)]
 pub struct BufferedScreen<'a, S, T> {
     screen: &'a mut S,
@@ -82,11 +83,12 @@ impl<'a, S: Target, T: Target> BufferedScreen<'a, S, T> {
 }
 
 impl<'a, S: Target, T: Target> Screen for BufferedScreen<'a, S, T> {
-    ghost use Rattle.std.specs.Prelude.{◌≡◌, ◌||◌, List, ℕ, refl, false};
+    ghost use Rattle.std.specs.Prelude.{◌≡◌, ◌||◌, refl, false};
     ghost use Rattle.std.proofs.Common.{◌∙◌};
-    ghost use Rattle.zk_term.specs.BufferedScreens.{Written, written_nothing, written_twice};
+    ghost use Rattle.zk_term.specs.BufferedScreens.{Written, written_nothing, signals_written_twice};
+    ghost use Rattle.zk_term.specs.Signals.{screen_text, script_text};
 
-    ghost shows = { λ a b s t. (b.screen.ghost_name ≡ a.screen.ghost_name)
+    ghost shows = { λ a b l. (b.screen.ghost_name ≡ a.screen.ghost_name)
         × (b.script.ghost_name ≡ a.script.ghost_name) × Written
         (record {
           screen = S.taken a.screen.now;
@@ -103,13 +105,13 @@ impl<'a, S: Target, T: Target> Screen for BufferedScreen<'a, S, T> {
           to_script = b.to_script;
           failed = b.failed;
           either = S.failed b.screen.now || T.failed b.script.now;
-        }) s t };
+        }) (screen_text l) (script_text l) };
 
     ghost failed = { λ c. c.failed };
 
     ghost full = { λ _. false };
 
-    fn text(&mut self, c: char) {
+    fn text(&mut self, c: char, _style: Style) {
         if self.failed {
             return;
         }
@@ -129,6 +131,10 @@ impl<'a, S: Target, T: Target> Screen for BufferedScreen<'a, S, T> {
         }
     }
 
+    fn erase(&mut self) {}
+
+    fn beep(&mut self, _bleep: Bleep) {}
+
     fn has_failed(&self) -> bool {
         self.failed
     }
@@ -139,9 +145,9 @@ impl<'a, S: Target, T: Target> Screen for BufferedScreen<'a, S, T> {
 
     ghost nothing = { λ a. (refl, refl, written_nothing _) };
 
-    ghost twice = { λ a b c s t u v h k. (
+    ghost twice = { λ a b c s t h k. (
       k.0 ∙ h.0,
       k.1 ∙ h.1,
-      written_twice _ _ _ s t u v h.2 k.2,
+      signals_written_twice _ _ _ s t h.2 k.2,
     ) };
 }

@@ -9,12 +9,19 @@ ghost use Rattle.zk_term.specs.guards.Examples.{ClearedWindows, UnsplitWindows, 
 ghost use Rattle.zk_term.specs.guards.Examples.{TheTallestIsKept, GridsThatAreForgotten, TextsOfRows};
 ghost use Rattle.zk_term.specs.guards.Examples.{CharactersAreColumns, KindsAfterAFlush, LinesBeginAnew, LinesGoOn};
 ghost use Rattle.zk_term.specs.guards.Examples.{LinesGoOnBehindASpace, LongWordsStandAlone, RowsAreNotWrapped};
-ghost use Rattle.zk_term.specs.guards.Examples.{SpacesInARow, WordsFillALine, WordsOfManyBytes};
+ghost use Rattle.zk_term.specs.guards.Examples.{SignalsHaveTexts, SpacesInARow, StylesAddUp, WordsFillALine};
+ghost use Rattle.zk_term.specs.guards.Examples.{WordsOfManyBytes};
 
 /// The characters of bytes in UTF-8, and bytes that are none.
 pub fn characters_by_example()
     ensures characters_of_each_length { CharactersOfEachLength }
     ensures stray_bytes { StrayBytes }
+{}
+
+/// Styles, and the texts in what a screen is given.
+pub fn signals_by_example()
+    ensures styles_add_up { StylesAddUp }
+    ensures signals_have_texts { SignalsHaveTexts }
 {}
 
 /// The codes of a line (Standard, section 3.8).

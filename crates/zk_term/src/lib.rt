@@ -13,6 +13,7 @@ pub mod nothing;
 pub mod open_line;
 pub mod screen;
 pub mod source;
+pub mod style;
 pub mod target;
 pub mod windows;
 pub mod wrapped;

@@ -6,9 +6,11 @@ ghost use Rattle.zk_term.specs.Windows.{first_windows, homed, past, kept_if_lowe
 ghost use Rattle.zk_term.specs.Windows.{unsplit, forgotten, line_erased, cursor_set, next_row, character_put};
 ghost use Rattle.zk_term.specs.Windows.{character_printed, row_text_of, row_text, tallest_height, tallest_row_text};
 ghost use Rattle.zk_term.specs.Windows.{without_last_blanks};
+ghost use Rattle.zk_term.specs.Styles.{style_set};
 ghost use Rattle.zk_term.specs.Grid.{emptied};
 ghost use Rattle.zk_term.specs.Places.{cell_number, cells_of};
 
+use crate::style::Style;
 use std::alloc::{AllocError, Global};
 use std::marker::Model;
 
@@ -38,6 +40,7 @@ pub struct Windows {
     row: u16,
     column: u8,
     selected: Window,
+    style: Style,
     // the rows of the tallest grid that is gone, one after another
     gone: Vec<char>,
     gone_height: u8,
@@ -143,6 +146,7 @@ impl Windows {
             row: 1,
             column: 1,
             selected: Window::Lower,
+            style: Style::roman(),
             gone,
             gone_height: 0,
         })
@@ -255,6 +259,7 @@ impl Windows {
         self.row = other.row;
         self.column = other.column;
         self.selected = other.selected;
+        self.style = other.style;
         self.gone_height = other.gone_height;
     }
 
@@ -298,6 +303,20 @@ impl Windows {
             let k = place(self.row, self.column);
             self.cells[k] = c;
         }
+    }
+
+    /// Sets a text style by its number, for both windows (Standard, sections 8.7.1 and 15, set_text_style).
+    pub fn set_style(&mut self, number: u16)
+        ensures { self.new ≡ record self.old { style = style_set number self.old.style } }
+    {
+        self.style = self.style.set(number);
+    }
+
+    /// The text style that is set.
+    pub fn style(&self) -> Style
+        ensures { result ≡ self.now.style }
+    {
+        self.style
     }
 
     /// Prints a character at the cursor, which goes on to the right, past the last column at most; a new line

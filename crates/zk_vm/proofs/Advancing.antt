@@ -25,7 +25,7 @@ use Rattle.zk_step.specs.Finish.{finished}
 use Rattle.zk_step.specs.Instructions.{carried_out}
 use Rattle.zk_step.specs.Laws.{fixed_parts}
 use Rattle.zk_step.specs.Limited.{kept, limited_move, text_in}
-use Rattle.zk_step.specs.Routing.{Texts, no_text, routed}
+use Rattle.zk_step.specs.Routing.{Signals, no_signals, routed}
 use Rattle.zk_step.specs.Saving.{saving}
 use Rattle.zk_step.specs.Variables.{operands_read}
 use Rattle.zk_step.proofs.Sweep.{stories_stay}
@@ -61,12 +61,12 @@ use Rattle.zk_vm.proofs.Sounds.{running, while_running, same_most, sound_now, st
 
 -- ---- what was carried out
 
-pub carried_fixed : (w : GameState) (i : Instr) (v : GameState) (n : Next) (t : Texts)
+pub carried_fixed : (w : GameState) (i : Instr) (v : GameState) (n : Next) (t : Signals)
     → limited_move (carried_out w i) ≡ Ok (v, (n, t)) → fixed_parts v.memory ≡ fixed_parts w.memory
 carried_fixed w i v n t h = stories_stay w i (v, (n, t)) (move_is (carried_out w i) (v, (n, t)) h)
 
 -- the step leads there
-step_is : (s : State) (i : Instr) (v : GameState) (n : Next) (t : Texts) → instr_at s.game.memory s.pc ≡ Ok i
+step_is : (s : State) (i : Instr) (v : GameState) (n : Next) (t : Signals) → instr_at s.game.memory s.pc ≡ Ok i
     → carried_out s.game i ≡ Ok (v, (n, t)) → step s ≡ led_to s i v t n
 unfolding step
 step_is s i v n t h k = ap (fetched s) h ∙ ap (settled s i) k
@@ -82,7 +82,7 @@ fault_is s f h = ap (fetched s) h
 
 -- ---- a machine whose instruction was carried out
 
-pub sound_moved : (m n : Inside) (i : Instr) (x : Next) (t : Texts) → IsSound m → m.stopped ≡ None
+pub sound_moved : (m n : Inside) (i : Instr) (x : Next) (t : Signals) → IsSound m → m.stopped ≡ None
     → n.limits ≡ m.limits → n.waiting ≡ None → n.steps ≤ m.limits.steps → n.reads ≡ m.reads → n.undo ≡ m.undo
     → n.cache ≡ m.cache
     → limited_move (carried_out m.game i) ≡ Ok (n.game, (x, t)) → bounds_of n.game.frames ≡ bounds_of
@@ -113,7 +113,7 @@ asked_moved s i w RestoreUndo e = go (gone_back s.undo w.memory w.frames)
 asked_moved s i w Quit e = refl
 
 -- from the state after it the step leads to the same
-step_moved : (m : Inside) (i : Instr) (w : GameState) (x : Request) (t : Texts)
+step_moved : (m : Inside) (i : Instr) (w : GameState) (x : Request) (t : Signals)
     → instr_at m.game.memory m.pc ≡ Ok i → limited_move (carried_out m.game i) ≡ Ok (w, (Asks x, t))
     → step (state_seen m) ≡ asked (state_seen (record m { game = w })) i w x
 step_moved m i w x t h told =
@@ -146,40 +146,39 @@ left_moved old new w u (Exceeds l) put = put.1
 -- ---- an instruction that keeps a state or goes back shows nothing
 
 silent_by : (s : State) (undo : List WholeState) (r : Result (GameState × ℕ) Fault)
-    → text_of s (goes_to s undo r) ≡ no_text
-silent_by s undo r = step_all (λ x. text_of s x ≡ no_text) _ r (λ x e. go (within_bounds x.0.frames)) (λ f e. refl)
+    → text_of s (goes_to s undo r) ≡ no_signals
+silent_by s undo r = step_all (λ x. text_of s x ≡ no_signals) _ r (λ x e. go (within_bounds x.0.frames)) (λ f e. refl)
   where
-    go : (q : Result FrameList Refusal) → text_within q no_text ≡ no_text
+    go : (q : Result FrameList Refusal) → text_within q no_signals ≡ no_signals
     go (Ok u) = refl
     go (Err e) = refl
 
-keeps_silent : (s : State) (i : Instr) (w : GameState) → text_of s (asked s i w SaveUndo) ≡ no_text
+keeps_silent : (s : State) (i : Instr) (w : GameState) → text_of s (asked s i w SaveUndo) ≡ no_signals
 keeps_silent s i w = silent_by s (with_kept s i w) (result_answered w i (kept_answer w.memory.undo_states) true)
 
 -- ---- the ways of a step
 
 -- an instruction has asked something of the machine, which goes on as it says from the state after it
 -- an instruction that asks for something is still the one that stands there
-pub still_there : (m : Inside) (w : GameState) (i : Instr) (x : Request) (t : Texts)
+pub still_there : (m : Inside) (w : GameState) (i : Instr) (x : Request) (t : Signals)
     → instr_at m.game.memory m.pc ≡ Ok i → limited_move (carried_out m.game i) ≡ Ok (w, (Asks x, t))
     → instr_at w.memory m.pc ≡ Ok i
 still_there m w i x t h told =
     let has = asks m.game i w x t (move_is (carried_out m.game i) (w, (Asks x, t)) told) in
     ap (λ (n : MemoryMap). instr_at n m.pc) (operands_memory i.operands m.game w has.values has.operands) ∙ h
 
-pub stepped_asked : {S : Type 0} (shows : S → S → List ℕ → List ℕ → Type 0)
-    (twice : (a b c : S) (s t u v : List ℕ) → shows a b s u → shows b c t v → shows a c (s ++ t) (u ++ v))
-    (a b c : S) (m : Inside) (new : Session) (i : Instr) (w : GameState) (x : Request) (t : Texts)
+pub stepped_asked : {S : Type 0} (shows : S → S → Signals → Type 0)
+    (twice : (a b c : S) (s t : Signals) → shows a b s → shows b c t → shows a c (s ++ t))
+    (a b c : S) (m : Inside) (new : Session) (i : Instr) (w : GameState) (x : Request) (t : Signals)
     (answer : Result (Unit {0}) Halt)
-    → instr_at m.game.memory m.pc ≡ Ok i → limited_move (carried_out m.game i) ≡ Ok (w, (Asks x, t)) → t ≡ no_text
-    → shows a b t.screen t.script
+    → instr_at m.game.memory m.pc ≡ Ok i → limited_move (carried_out m.game i) ≡ Ok (w, (Asks x, t)) → t ≡ no_signals
+    → shows a b t
     → Settles (seen (record m { game = w })) new answer (asked (state_seen (record m { game = w })) i w x)
-    → shows b c (text_of (state_seen m) (asked (state_seen (record m { game = w })) i w x)).screen
-    (text_of (state_seen m) (asked (state_seen (record m { game = w })) i w x)).script
-    → IsStep (seen m) new answer (λ y. shows a c y.screen y.script)
+    → shows b c (text_of (state_seen m) (asked (state_seen (record m { game = w })) i w x))
+    → IsStep (seen m) new answer (λ y. shows a c y)
 stepped_asked {S} shows twice a b c m new i w x t answer h told quiet first settles rest =
-    let none : shows a b [] [] = subst (λ (y : Texts). shows a b y.screen y.script) quiet first in
-    inl (subst (λ (y : Step). StepsTo y (seen m) new answer (λ z. shows a c z.screen z.script))
+    let none : shows a b [] = subst (λ (y : Signals). shows a b y) quiet first in
+    inl (subst (λ (y : Step). StepsTo y (seen m) new answer (λ z. shows a c z))
     (sym (step_moved m i w x t h told)) (record {
       tells = settles.tells;
       left = left_moved (seen m) new w (states_in w.memory.file m.undo)
@@ -190,21 +189,21 @@ stepped_asked {S} shows twice a b c m new i w x t answer h told quiet first sett
 -- ---- an instruction that keeps a state
 
 -- it is one, where the machine is asked to keep a state
-pub asks_keeps : (w v : GameState) (i : Instr) (x : Request) (t : Texts)
+pub asks_keeps : (w v : GameState) (i : Instr) (x : Request) (t : Signals)
     → limited_move (carried_out w i) ≡ Ok (v, (Asks x, t)) → x ≡ SaveUndo → KeepsState i
 asks_keeps w v i x t told saves =
     subst (AsksBy i.opcode) saves (asks w i v x t (move_is (carried_out w i) (v, (Asks x, t)) told)).by
 
 -- what it shows is nothing
-pub shown_silent : (old new : Session) (answer : Result (Unit {0}) Halt) (Shown : Texts → Type 0)
-    → IsStep old new answer (λ t. t ≡ no_text) → Shown no_text → IsStep old new answer Shown
+pub shown_silent : (old new : Session) (answer : Result (Unit {0}) Halt) (Shown : Signals → Type 0)
+    → IsStep old new answer (λ t. t ≡ no_signals) → Shown no_signals → IsStep old new answer Shown
 shown_silent old new answer Shown (inl made) shown =
     inl (record { tells = made.tells; left = made.left; shown = subst Shown (sym made.shown) shown })
 shown_silent old new answer Shown (inr (tells, same, (keeping, silent))) shown = inr (tells, same, (keeping, shown))
 
 -- its operands are taken, and it asks the machine to keep a state
 pub keeps_asks : (w v : GameState) (i : Instr) (vs : List ℕ) → KeepsState i
-    → operands_read w i.operands ≡ Ok (v, vs) → limited_move (carried_out w i) ≡ Ok (v, (Asks SaveUndo, no_text))
+    → operands_read w i.operands ≡ Ok (v, vs) → limited_move (carried_out w i) ≡ Ok (v, (Asks SaveUndo, no_signals))
 unfolding carried_out effect_of saving routed finished
 keeps_asks w v i vs keeps taken = rw (taken, keeps) refl
 
@@ -216,16 +215,16 @@ keeps_refused w i f refused = rw refused refl
 
 -- it settles as the step does
 pub kept_settled : (m : Inside) (new : Session) (i : Instr) (w : GameState) (vs : List ℕ)
-    (answer : Result (Unit {0}) Halt) (Shown : Texts → Type 0) → instr_at m.game.memory m.pc ≡ Ok i → KeepsState i
+    (answer : Result (Unit {0}) Halt) (Shown : Signals → Type 0) → instr_at m.game.memory m.pc ≡ Ok i → KeepsState i
     → operands_read m.game i.operands ≡ Ok (w, vs)
     → Settles (seen (record m { game = w })) new answer (asked (state_seen (record m { game = w })) i w SaveUndo)
-    → Shown no_text → IsStep (seen m) new answer Shown
+    → Shown no_signals → IsStep (seen m) new answer Shown
 kept_settled m new i w vs answer Shown h keeps taken settles shown =
     let told = keeps_asks m.game w i vs keeps taken in
     let silent : text_of (state_seen m) (asked (state_seen (record m { game = w })) i w SaveUndo)
-    ≡ no_text = keeps_silent (state_seen (record m { game = w })) i w in
+    ≡ no_signals = keeps_silent (state_seen (record m { game = w })) i w in
     inl (subst (λ (y : Step). StepsTo y (seen m) new answer Shown)
-    (sym (step_moved m i w SaveUndo no_text h told)) (record {
+    (sym (step_moved m i w SaveUndo no_signals h told)) (record {
       tells = settles.tells;
       left = left_moved (seen m) new w (states_in w.memory.file m.undo)
           (asked (state_seen (record m { game = w })) i w SaveUndo) settles.put;
@@ -259,7 +258,7 @@ stands_back m n w fixed same =
 pub is_keeping : (m : Inside) (i : Instr) (w : GameState) (vs : List ℕ) → instr_at m.game.memory m.pc ≡ Ok i
     → KeepsState i → operands_read m.game i.operands ≡ Ok (w, vs) → 0 < w.memory.undo_states → IsKeeping (state_seen m)
 is_keeping m i w vs h keeps taken some =
-    let fixed = carried_fixed m.game i w (Asks SaveUndo) no_text (keeps_asks m.game w i vs keeps taken) in
+    let fixed = carried_fixed m.game i w (Asks SaveUndo) no_signals (keeps_asks m.game w i vs keeps taken) in
     record {
       instruction = i;
       fetched = h;
@@ -271,12 +270,12 @@ is_keeping m i w vs h keeps taken some =
     }
 
 -- it goes on at an address
-kept_at : (q : Result FrameList Refusal) (r s : GameState × (Next × Texts))
-    → kept {B = GameState × (Next × Texts)} q r ≡ Ok s → (u : FrameList) × (q ≡ Ok u)
+kept_at : (q : Result FrameList Refusal) (r s : GameState × (Next × Signals))
+    → kept {B = GameState × (Next × Signals)} q r ≡ Ok s → (u : FrameList) × (q ≡ Ok u)
 kept_at (Ok u) r s h = (u, refl)
 kept_at (Err e) r s h = absurd cc
 
-pub at_step : (s : State) (i : Instr) (w : GameState) (p : ℕ) (t : Texts) → instr_at s.game.memory s.pc ≡ Ok i
+pub at_step : (s : State) (i : Instr) (w : GameState) (p : ℕ) (t : Signals) → instr_at s.game.memory s.pc ≡ Ok i
     → limited_move (carried_out s.game i) ≡ Ok (w, (At p, t))
     → (step s ≡ Goes (record s { game = w; pc = p; steps = s.steps + 1 }) t)
     × ((u : FrameList) × (within_bounds w.frames ≡ Ok u))
@@ -285,11 +284,11 @@ at_step s i w p t h told =
     let here : limited_move (Ok (w, (At p, t))) ≡ Ok (w, (At p, t)) = sym (ap limited_move is) ∙ told in
     (step_is s i w (At p) t h is, kept_at (within_bounds w.frames) (w, (At p, t)) (w, (At p, t)) here)
 
-pub stepped_on : {S : Type 0} (shows : S → S → List ℕ → List ℕ → Type 0) (a b : S) (m : Inside) (i : Instr)
-    (w : GameState) (p : ℕ) (t : Texts) → instr_at m.game.memory m.pc ≡ Ok i
-    → limited_move (carried_out m.game i) ≡ Ok (w, (At p, t)) → shows a b t.screen t.script
+pub stepped_on : {S : Type 0} (shows : S → S → Signals → Type 0) (a b : S) (m : Inside) (i : Instr)
+    (w : GameState) (p : ℕ) (t : Signals) → instr_at m.game.memory m.pc ≡ Ok i
+    → limited_move (carried_out m.game i) ≡ Ok (w, (At p, t)) → shows a b t
     → IsStep (seen m) (seen (record m { game = w; pc = p; steps = m.steps + 1 })) (Ok tt)
-    (λ x. shows a b x.screen x.script)
+    (λ x. shows a b x)
 stepped_on {S} shows a b m i w p t h told shown =
     let at = at_step (state_seen m) i w p t h told in
     let same = same_states m.game.memory w.memory m.undo (carried_fixed m.game i w (At p) t told) in
@@ -300,35 +299,35 @@ stepped_on {S} shows a b m i w p t h told shown =
     let left : seen (record m { game = w; pc = p; steps = m.steps + 1 }) ≡ record (seen m)
     { state = to } = ap (λ (u : List WholeState). record (seen m) { state = record to { undo = u } }) same in
     inl (subst (λ (y : Step). StepsTo y (seen m) (seen (record m { game = w; pc = p; steps = m.steps + 1 }))
-    (Ok tt) (λ z. shows a b z.screen z.script)) (sym at.0) (record {
+    (Ok tt) (λ z. shows a b z)) (sym at.0) (record {
       tells = sym (ap halt_by verdict);
       left =
           subst (λ (v : Verdict). IsLeftAt (seen m) (seen (record m { game = w; pc = p; steps = m.steps + 1 })) v
           to) (sym verdict) left;
-      shown = subst (λ (y : Texts). shows a b y.screen y.script) (sym text) shown;
+      shown = subst (λ (y : Signals). shows a b y) (sym text) shown;
     }))
 
 -- it is the last
-ended_by : {S : Type 0} (shows : S → S → List ℕ → List ℕ → Type 0) (a b : S) (old new : Session) (x : Step)
-    (stop : Stop) (t : Texts) (answer : Result (Unit {0}) Halt) → step old.state ≡ x
+ended_by : {S : Type 0} (shows : S → S → Signals → Type 0) (a b : S) (old new : Session) (x : Step)
+    (stop : Stop) (t : Signals) (answer : Result (Unit {0}) Halt) → step old.state ≡ x
     → verdict_of old.state x ≡ StopsBy stop → text_of old.state x ≡ t
-    → answer ≡ Err (Err stop) → new.waiting ≡ None → shows a b t.screen t.script
-    → IsStep old new answer (λ y. shows a b y.screen y.script)
+    → answer ≡ Err (Err stop) → new.waiting ≡ None → shows a b t
+    → IsStep old new answer (λ y. shows a b y)
 ended_by {S} shows a b old new x stop t answer is verdict text tells free shown =
-    inl (subst (λ (y : Step). StepsTo y old new answer (λ z. shows a b z.screen z.script)) (sym is) (record {
+    inl (subst (λ (y : Step). StepsTo y old new answer (λ z. shows a b z)) (sym is) (record {
       tells = tells ∙ sym (ap halt_by verdict);
       left = subst (λ (v : Verdict). IsLeftAt old new v (state_after old.state x)) (sym verdict) free;
-      shown = subst (λ (y : Texts). shows a b y.screen y.script) (sym text) shown;
+      shown = subst (λ (y : Signals). shows a b y) (sym text) shown;
     }))
 
-kept_err : (q : Result FrameList Refusal) (r : GameState × (Next × Texts)) (e : Refusal)
-    → kept {B = GameState × (Next × Texts)} q r ≡ Err e → q ≡ Err e
+kept_err : (q : Result FrameList Refusal) (r : GameState × (Next × Signals)) (e : Refusal)
+    → kept {B = GameState × (Next × Signals)} q r ≡ Err e → q ≡ Err e
 kept_err (Ok u) r e h = absurd cc
 kept_err (Err d) r e h = cc
 
-pub err_step : (s : State) (i : Instr) (r : Result (GameState × (Next × Texts)) Fault) (e : Refusal)
+pub err_step : (s : State) (i : Instr) (r : Result (GameState × (Next × Signals)) Fault) (e : Refusal)
     → limited_move r ≡ Err e → (verdict_of s (settled s i r) ≡ StopsBy (stop_by s.pc e))
-    × (text_of s (settled s i r) ≡ no_text)
+    × (text_of s (settled s i r) ≡ no_signals)
 err_step s i (Ok (w, (At p, t))) e h =
     let over = kept_err (within_bounds w.frames) (w, (At p, t)) e h in
     (ap (verdict_within s.pc) over ∙ stops_by s.pc e, ap (λ (q : Result FrameList Refusal). text_within q t) over)
@@ -336,24 +335,23 @@ err_step s i (Ok (w, (Asks x, t))) e h = absurd cc
 err_step s i (Err f) e h =
     let is : refusal.Fault f ≡ e = cc in (ap (λ (x : Refusal). StopsBy (stop_by s.pc x)) is, refl)
 
-pub stepped_err : {S : Type 0} (shows : S → S → List ℕ → List ℕ → Type 0) (a b : S) (m : Inside) (new : Session)
+pub stepped_err : {S : Type 0} (shows : S → S → Signals → Type 0) (a b : S) (m : Inside) (new : Session)
     (i : Instr) (e : Refusal) (answer : Result (Unit {0}) Halt) → instr_at m.game.memory m.pc ≡ Ok i
     → limited_move (carried_out m.game i) ≡ Err e → answer ≡ Err (Err (stop_by m.pc e)) → new.waiting ≡ None
-    → shows a b (text_in (limited_move (carried_out m.game i))).screen
-    (text_in (limited_move (carried_out m.game i))).script → IsStep (seen m) new answer
-    (λ y. shows a b y.screen y.script)
+    → shows a b (text_in (limited_move (carried_out m.game i))) → IsStep (seen m) new answer
+    (λ y. shows a b y)
 stepped_err {S} shows a b m new i e answer h told tells free shown =
     let parts = err_step (state_seen m) i (carried_out m.game i) e told in
-    ended_by shows a b (seen m) new (settled (state_seen m) i (carried_out m.game i)) (stop_by m.pc e) no_text
+    ended_by shows a b (seen m) new (settled (state_seen m) i (carried_out m.game i)) (stop_by m.pc e) no_signals
     answer (fetched_is (state_seen m) i h) parts.0 parts.1 tells free
-    (subst (λ (y : Texts). shows a b y.screen y.script) (ap text_in told) shown)
+    (subst (λ (y : Signals). shows a b y) (ap text_in told) shown)
 
-pub stepped_fault : {S : Type 0} (shows : S → S → List ℕ → List ℕ → Type 0) (a : S) (m : Inside) (new : Session)
+pub stepped_fault : {S : Type 0} (shows : S → S → Signals → Type 0) (a : S) (m : Inside) (new : Session)
     (f : Fault) (answer : Result (Unit {0}) Halt) → instr_at m.game.memory m.pc ≡ Err f
-    → answer ≡ Err (Err (stop.Fault m.pc f)) → new.waiting ≡ None → shows a a [] []
-    → IsStep (seen m) new answer (λ y. shows a a y.screen y.script)
+    → answer ≡ Err (Err (stop.Fault m.pc f)) → new.waiting ≡ None → shows a a []
+    → IsStep (seen m) new answer (λ y. shows a a y)
 stepped_fault {S} shows a m new f answer h tells free shown =
-    ended_by shows a a (seen m) new (Faults f) (stop.Fault m.pc f) no_text answer (fault_is (state_seen m) f h)
+    ended_by shows a a (seen m) new (Faults f) (stop.Fault m.pc f) no_signals answer (fault_is (state_seen m) f h)
     refl refl tells free shown
 
 -- ---- it waits for a read
@@ -363,10 +361,10 @@ unfolding lines_shown
 lines_memory w [] = refl
 lines_memory w (c ∷ cs) = refl
 
-viewed_memory_by : (view : View) (w v : GameState) (t : Texts) → viewed_by view w ≡ Ok (v, t) → v.memory ≡ w.memory
+viewed_memory_by : (view : View) (w v : GameState) (t : Signals) → viewed_by view w ≡ Ok (v, t) → v.memory ≡ w.memory
 viewed_memory_by view.Plain w v t h =
-    let same : ◌≡◌ {A = GameState × Texts} (w, no_text) (v, t) = cc in
-    sym (ap (λ (q : GameState × Texts). q.0.memory) same)
+    let same : ◌≡◌ {A = GameState × Signals} (w, no_signals) (v, t) = cc in
+    sym (ap (λ (q : GameState × Signals). q.0.memory) same)
 viewed_memory_by view.Upper w v t h = go (status_text w.memory) h
   where
     go : (r : Result (List ℕ) Fault)
@@ -374,11 +372,11 @@ viewed_memory_by view.Upper w v t h = go (status_text w.memory) h
         → v.memory ≡ w.memory
     go (Ok status) k =
         let same : lines_shown w (status ++ rows_shown w.windows 1 w.windows.height) ≡ (v, t) = cc in
-        sym (ap (λ (q : GameState × Texts). q.0.memory) same)
+        sym (ap (λ (q : GameState × Signals). q.0.memory) same)
         ∙ lines_memory w (status ++ rows_shown w.windows 1 w.windows.height)
     go (Err f) k = absurd cc
 
-viewed_memory : (w v : GameState) (t : Texts) → viewed w ≡ Ok (v, t) → v.memory ≡ w.memory
+viewed_memory : (w v : GameState) (t : Signals) → viewed w ≡ Ok (v, t) → v.memory ≡ w.memory
 unfolding viewed
 viewed_memory w v t h = viewed_memory_by w.view w v t h
 
@@ -420,7 +418,7 @@ sound_waiting m v w is runs silent room memory bounds near inside past there =
       };
     }
 
-pub sound_viewed : (m : Inside) (v : GameState) (t : Texts) (w : Waiting) → IsSound m → m.stopped ≡ None
+pub sound_viewed : (m : Inside) (v : GameState) (t : Signals) (w : Waiting) → IsSound m → m.stopped ≡ None
     → m.due.items ≡ [] → m.steps < m.limits.steps → viewed m.game ≡ Ok (v, t)
     → bounds_of v.frames ≡ bounds_of m.game.frames
     → w.instruction.next ≤ 1048576 → m.pc < w.instruction.next → m.reads < 16777216
@@ -430,7 +428,7 @@ sound_viewed m v t w is runs silent room view bounds near inside few there =
     (not_past m.reads w.wait few) there
 
 -- so it is left
-pub view_settles : (m : Inside) (v : GameState) (t : Texts) (x : Event) (i : Instr) → is_read x ≡ true
+pub view_settles : (m : Inside) (v : GameState) (t : Signals) (x : Event) (i : Instr) → is_read x ≡ true
     → viewed m.game ≡ Ok (v, t) → m.reads < 16777216
     → Settles (seen m) (seen (record m { game = v; waiting = Some (record { wait = x; instruction = i }) }))
     (Err (Ok x)) (asked (state_seen m) i m.game (Answer x))
@@ -438,7 +436,7 @@ view_settles m v t x i read view few =
     let memory = viewed_memory m.game v t view in
     let here : asked (state_seen m) i m.game (Answer x) ≡ Awaits (record (state_seen m) { game = v })
     (record { wait = x; instruction = i }) t
-    = ap (λ (b : Bool). waits_by (state_seen m) i x (if b then viewed m.game else Ok (m.game, no_text))) read
+    = ap (λ (b : Bool). waits_by (state_seen m) i x (if b then viewed m.game else Ok (m.game, no_signals))) read
     ∙ ap (waits_by (state_seen m) i x) view in
     let verdict : verdict_of (state_seen m) (Awaits (record (state_seen m) { game = v })
     (record { wait = x; instruction = i }) t) ≡ WaitsFor (record { wait = x; instruction = i })

@@ -12,7 +12,7 @@ use Rattle.zk_step.specs.Laws.{fixed_parts}
 use Rattle.zk_fast.specs.Caches.{IsCacheOf}
 use Rattle.zk_step.specs.declared.state.game_state.GameState.{GameState}
 use Rattle.zk_step.specs.Instructions.{carried_out}
-use Rattle.zk_step.specs.Routing.{Texts, no_text}
+use Rattle.zk_step.specs.Routing.{Signals, no_signals}
 use Rattle.zk_fast.specs.QuietSteps.{AreNoted, GoesBy, IsRefused, IsRefusedAfter, IsQuietStep, QuietSteps}
 use Rattle.zk_fast.specs.QuietSteps.GoesBy.{nowhere, along}
 use Rattle.zk_fast.specs.QuietSteps.QuietSteps.{none, more}
@@ -32,15 +32,15 @@ use Rattle.zk_vm.proofs.Sounds.{running, sound_now, story_stays}
 pub record IsSilentStep (s : State) (v : GameState) (q : ℕ) : Type 0 where
   pub after : state_after s (step s) ≡ record s { game = v; pc = q; steps = s.steps + 1 }
   pub goes : verdict_of s (step s) ≡ GoesOn
-  pub shows : text_of s (step s) ≡ no_text
+  pub shows : text_of s (step s) ≡ no_signals
 
 pub silent_step : (s : State) (v : GameState) (q : ℕ) → IsQuietStep s.game s.pc v q → IsSilentStep s v q
 silent_step s v q quiet =
-    let at = at_step s quiet.instruction v q no_text quiet.fetched quiet.carried in
+    let at = at_step s quiet.instruction v q no_signals quiet.fetched quiet.carried in
     record {
       after = ap (state_after s) at.0;
       goes = ap (verdict_of s) at.0 ∙ ap (verdict_within s.pc) at.1.1;
-      shows = ap (text_of s) at.0 ∙ ap (λ (r : Result FrameList Refusal). text_within r no_text) at.1.1;
+      shows = ap (text_of s) at.0 ∙ ap (λ (r : Result FrameList Refusal). text_within r no_signals) at.1.1;
     }
 
 pub none_behind : (s : State) → after_steps s zero s.game s.pc ≡ s
@@ -55,7 +55,7 @@ more_behind s v end q last n =
 
 -- an instruction that is refused after them
 pub refused_step : (s : State) (r : Refusal) → IsRefused s.game s.pc r
-    → (verdict_of s (step s) ≡ StopsBy (stop_by s.pc r)) × (text_of s (step s) ≡ no_text)
+    → (verdict_of s (step s) ≡ StopsBy (stop_by s.pc r)) × (text_of s (step s) ≡ no_signals)
 refused_step s r refused =
     let parts = err_step s refused.instruction (carried_out s.game refused.instruction) r refused.refused in
     let is = fetched_is s refused.instruction refused.fetched in
@@ -67,7 +67,7 @@ pub steps_fixed : (n : ℕ) (w end : GameState) (pc last : ℕ) → QuietSteps n
     → fixed_parts end.memory ≡ fixed_parts w.memory
 steps_fixed _ _ _ _ _ none = refl
 steps_fixed _ _ _ _ _ (more {n} {w} {v} {end} {pc} {next} {last} quiet rest) =
-    steps_fixed n v end next last rest ∙ carried_fixed w quiet.instruction v (At next) no_text quiet.carried
+    steps_fixed n v end next last rest ∙ carried_fixed w quiet.instruction v (At next) no_signals quiet.carried
 
 pub sound_ahead : (m n : Inside) (k : ℕ) → QuietSteps k m.game m.pc n.game n.pc → IsSound m → m.stopped ≡ None
     → n.limits ≡ m.limits → n.waiting ≡ None → n.steps ≤ m.limits.steps → n.reads ≡ m.reads → n.undo ≡ m.undo
@@ -85,12 +85,12 @@ sound_ahead m n k quiet_steps is runs limits free steps reads undo cache bounds 
 same_ok : {A B : Type 0} (x y : A) → ◌≡◌ {A = Result A B} (Ok x) (Ok y) → x ≡ y
 same_ok x y e = cc
 
-same_goes : (v u : GameState) (a b : ℕ) → ◌≡◌ {A = GameState × (Next × Texts)} (v, (At a, no_text))
-    (u, (At b, no_text)) → (v ≡ u) × (a ≡ b)
+same_goes : (v u : GameState) (a b : ℕ) → ◌≡◌ {A = GameState × (Next × Signals)} (v, (At a, no_signals))
+    (u, (At b, no_signals)) → (v ≡ u) × (a ≡ b)
 same_goes v u a b e = (
-  ap (λ (x : GameState × (Next × Texts)). x.0) e,
+  ap (λ (x : GameState × (Next × Signals)). x.0) e,
   let at : At a ≡ At
-      b = ap (λ (x : GameState × (Next × Texts)). x.1.0) e in cc,
+      b = ap (λ (x : GameState × (Next × Signals)). x.1.0) e in cc,
 )
 
 same_step : (w v u : GameState) (pc a b : ℕ) → IsQuietStep w pc v a → IsQuietStep w pc u b → (v ≡ u) × (a ≡ b)

@@ -15,7 +15,7 @@ use Rattle.zk_step.specs.Inputs.{character_answered, line_answered, result_answe
 use Rattle.zk_step.specs.Laws.{fixed_parts}
 use Rattle.zk_step.specs.Restarts.{windows_closed}
 use Rattle.zk_step.specs.Resuming.{resumed as back}
-use Rattle.zk_step.specs.Routing.{Texts, no_text}
+use Rattle.zk_step.specs.Routing.{Signals, no_signals}
 use Rattle.zk_step.proofs.Sweep.{answers_leave_stories}
 use Rattle.zk_vm.specs.declared.waiting.Waiting.{Waiting}
 use Rattle.zk_vm.specs.Answers.{Answer, answered, answered_by, answer_settled, codes_of, file_of, first_code, is_kept}
@@ -72,7 +72,7 @@ pub record AnswersSo (read : Bool) (s t : State) : Type 0 where
 
 -- so it does where it goes on
 abbrev AnswersOn : Bool → State → Step → Type 0
-AnswersOn read s x = (t : State) (text : Texts) → x ≡ Goes t text → AnswersSo read s t
+AnswersOn read s x = (t : State) (text : Signals) → x ≡ Goes t text → AnswersSo read s t
 
 -- what an instruction leads to has memory that keeps as many states
 abbrev KeepsAsMany : State → Result (GameState × ℕ) Fault → Type 0
@@ -81,7 +81,7 @@ KeepsAsMany s r = (x : GameState × ℕ) → r ≡ Ok x → x.0.memory.undo_stat
 settled_on : (s : State) (due : List ℕ) (r : Result (GameState × ℕ) Fault) → KeepsAsMany s r
     → AnswersOn true s (answer_settled s due r)
 settled_on s due r most =
-    step_all (AnswersOn true s) _ r (λ x e t text h. so x e t (goes_same _ t no_text text h))
+    step_all (AnswersOn true s) _ r (λ x e t text h. so x e t (goes_same _ t no_signals text h))
     (λ f e t text h. absurd cc)
   where
     so : (x : GameState × ℕ) → r ≡ Ok x → (t : State) → record s {
@@ -103,7 +103,7 @@ settled_on s due r most =
         }
 
 goes_on : (s : State) (r : Result (GameState × ℕ) Fault) → KeepsAsMany s r → AnswersOn false s (goes_to s s.undo r)
-goes_on s r most = step_all (AnswersOn false s) _ r (λ x e t text h. so x e t (goes_same _ t no_text text h))
+goes_on s r most = step_all (AnswersOn false s) _ r (λ x e t text h. so x e t (goes_same _ t no_signals text h))
     (λ f e t text h. absurd cc)
   where
     so : (x : GameState × ℕ) → r ≡ Ok x → (t : State) → record s {
@@ -156,7 +156,7 @@ by_on s i event.Save a = goes_on s (result_answered s.game i (truth_word (is_kep
     (result_most s i (truth_word (is_kept a)) (is_kept a))
 by_on s i event.Restore a = from_on s i (file_of a)
 
-pub answered_so : (s t : State) (w : Waiting) (a : Answer) (text : Texts) → answered s w a ≡ Goes t text
+pub answered_so : (s t : State) (w : Waiting) (a : Answer) (text : Signals) → answered s w a ≡ Goes t text
     → AnswersSo (is_read w.wait) s t
 unfolding answered
 answered_so s t w a text h = by_on s w.instruction w.wait a t text h

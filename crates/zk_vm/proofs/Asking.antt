@@ -15,7 +15,7 @@ use Rattle.zk_mem.specs.Results.{◌>>=◌}
 use Rattle.zk_step.specs.Effects.{effect_by, effect_of}
 use Rattle.zk_step.specs.Instructions.{carried_out}
 use Rattle.zk_step.specs.Finish.{finished}
-use Rattle.zk_step.specs.Routing.{Texts, no_text, routed}
+use Rattle.zk_step.specs.Routing.{Signals, no_signals, routed}
 use Rattle.zk_step.specs.Variables.{operands_read}
 use Rattle.zk_step.proofs.FixedParts.{Leaves, gives, fails, value_left}
 use Rattle.zk_step.proofs.Ends.{ends_as}
@@ -41,23 +41,23 @@ pause_same : (w v : GameState) (i : Instr) (vs : List ℕ) (x : Request) (n : Ne
 unfolding finished
 pause_same w v i vs x n h = sym (pair_is w v (Asks x) n h).0
 
-silent_route : (m : MemoryMap) (w : GameState) (o : Output) (r : GameState × Texts) → o ≡ Nothing
-    → routed m w o ≡ Ok r → (r.0 ≡ w) × (r.1 ≡ no_text)
+silent_route : (m : MemoryMap) (w : GameState) (o : Output) (r : GameState × Signals) → o ≡ Nothing
+    → routed m w o ≡ Ok r → (r.0 ≡ w) × (r.1 ≡ no_signals)
 unfolding routed
 silent_route m w o r silent h =
-    let same = pair_is w r.0 no_text r.1 (sym (ap (routed m w) silent) ∙ h) in
+    let same = pair_is w r.0 no_signals r.1 (sym (ap (routed m w) silent) ∙ h) in
     (sym same.0, sym same.1)
 
 -- an instruction has asked something of the machine: these values were taken, which is all that has changed, and it is
 -- of its opcode
-pub record HasAsked (w v : GameState) (i : Instr) (x : Request) (t : Texts) : Type 0 where
+pub record HasAsked (w v : GameState) (i : Instr) (x : Request) (t : Signals) : Type 0 where
   pub values : List ℕ
   pub operands : operands_read w i.operands ≡ Ok (v, values)
-  pub quiet : t ≡ no_text
+  pub quiet : t ≡ no_signals
   pub by : AsksBy i.opcode x
 
 -- by its effect, its route and its end
-asked_by : (w u : GameState) (i : Instr) (vs : List ℕ) (e : GameState × Effect) (r : GameState × Texts)
+asked_by : (w u : GameState) (i : Instr) (vs : List ℕ) (e : GameState × Effect) (r : GameState × Signals)
     (v : GameState) (x : Request) → operands_read w i.operands ≡ Ok (u, vs) → (IsPause e.1.ending → PausesSo u e)
     → EndsBy i.opcode vs e.1.ending
     → routed w.memory e.0 e.1.output ≡ Ok r → finished r.0 i vs e.1.ending ≡ Ok (v, Asks x) → HasAsked w v i x r.1
@@ -75,7 +75,7 @@ asked_by w u i vs e r v x taken so by route finish =
     }
 
 -- what an instruction has asked, if it has
-abbrev AsksSo : GameState → Instr → GameState × (Next × Texts) → Type 0
+abbrev AsksSo : GameState → Instr → GameState × (Next × Signals) → Type 0
 AsksSo w i r = (x : Request) → r.1.0 ≡ Asks x → HasAsked w r.0 i x r.1.1
 
 carried_asks : (w : GameState) (i : Instr) → Leaves (AsksSo w i) (carried_out w i)
@@ -91,6 +91,6 @@ carried_asks w i =
         → r ≡ Ok (n.0, Asks x)
     asks_is {r} n x is h = h ∙ ap (λ (m : Next). let p : GameState × Next = (n.0, m) in Ok p) is
 
-pub asks : (w : GameState) (i : Instr) (v : GameState) (x : Request) (t : Texts)
+pub asks : (w : GameState) (i : Instr) (v : GameState) (x : Request) (t : Signals)
     → carried_out w i ≡ Ok (v, (Asks x, t)) → HasAsked w v i x t
 asks w i v x t h = value_left (carried_out w i) (v, (Asks x, t)) (carried_asks w i) h x refl

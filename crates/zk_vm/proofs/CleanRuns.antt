@@ -27,7 +27,7 @@ use Rattle.zk_save.specs.Loading.{restored}
 use Rattle.zk_save.specs.States.{WholeState}
 use Rattle.zk_step.specs.declared.state.game_state.View.{View}
 use Rattle.zk_step.specs.Laws.{IsOneStory, KeepsStory, is_of_reading}
-use Rattle.zk_step.specs.Routing.{Texts}
+use Rattle.zk_step.specs.Routing.{Signals}
 use Rattle.zk_step.proofs.Inside.{ends_inside, goes_inside, next_inside, read_inside}
 use Rattle.zk_step.proofs.Sweep.{Anywhere, ResumesInto, ends_anywhere, leads_anywhere, return_anywhere}
 use Rattle.zk_vm.specs.declared.limits.Limits.{Limits}
@@ -264,7 +264,7 @@ module _ (P : ℕ → Type 0) where
   step_read s (Faults f) h = λ inside. h inside f refl
   step_read s (Exceeds l) h = tt
 
-  to_read : (s : Session) (v : Verdict) (t : State) (text : Texts) → IsReadBy s.stopped → IsReadOn v
+  to_read : (s : Session) (v : Verdict) (t : State) (text : Signals) → IsReadBy s.stopped → IsReadOn v
       → IsReadBy (stepped_to s v t text).to.stopped
   to_read s GoesOn t text h on = h
   to_read s (WaitsFor w) t text h on = h
@@ -275,7 +275,7 @@ module _ (P : ℕ → Type 0) where
   steps_read (suc n) s h read = to_read s (verdict_of s.state (step s.state)) (state_after s.state (step s.state))
       (text_left s.left s.state) h (step_read s.state (step s.state) read)
 
-  parted_read : (silent : Bool) (n : ℕ) (s : Session) (v : Verdict) (t : State) (text : Texts)
+  parted_read : (silent : Bool) (n : ℕ) (s : Session) (v : Verdict) (t : State) (text : Signals)
       → IsReadBy s.stopped → IsReadOn v → IsReadBy (parted_to silent n s v t text).to.stopped
   parted_read true n s v t text h on = h
   parted_read false n s GoesOn t text h on = h

@@ -29,7 +29,7 @@ use Rattle.zk_save.specs.States.{WholeState, gone_back, memory_back}
 use Rattle.zk_step.specs.Inputs.{result_answered}
 use Rattle.zk_step.specs.Laws.{fixed_parts, rebounded, moved_in}
 use Rattle.zk_step.specs.Resuming.{resumed}
-use Rattle.zk_step.specs.Routing.{Texts, no_text}
+use Rattle.zk_step.specs.Routing.{Signals, no_signals}
 use Rattle.zk_step.proofs.Sweep.{bounds_are_not_seen, answers_see_no_bounds, stories_stay, answers_leave_stories}
 use Rattle.zk_vm.specs.declared.limits.Limits.{Limits}
 use Rattle.zk_vm.specs.declared.waiting.Waiting.{Waiting}
@@ -62,7 +62,7 @@ step_by_same {A} f m a b (Ok x) same = same x
 step_by_same {A} f m a b (Err e) same = refl
 
 -- the view looks at no bounds
-lines_same : (f m : ℕ) (w : GameState) (cs : List ℕ) → ◌≡◌ {A = Result (GameState × Texts) Fault}
+lines_same : (f m : ℕ) (w : GameState) (cs : List ℕ) → ◌≡◌ {A = Result (GameState × Signals) Fault}
     (Ok (lines_shown (rebounded f m w) cs)) (moved_in f m (Ok (lines_shown w cs)))
 unfolding lines_shown
 lines_same f m w [] = refl
@@ -82,7 +82,7 @@ viewed_same : (f m : ℕ) (w : GameState) → viewed (rebounded f m w) ≡ moved
 unfolding viewed
 viewed_same f m w = viewed_by_same f m w.view w
 
-waits_by_same : (f m : ℕ) (s : State) (i : Instr) (event : Event) (r : Result (GameState × Texts) Fault)
+waits_by_same : (f m : ℕ) (s : State) (i : Instr) (event : Event) (r : Result (GameState × Signals) Fault)
     → waits_by (state_in f m s) i event (moved_in f m r) ≡ step_in f m (waits_by s i event r)
 unfolding step_in
 waits_by_same f m s i event r = step_by_same f m _ _ r (λ x. refl)
@@ -91,8 +91,8 @@ view_before_same : (f m : ℕ) (event : Event) (w : GameState) → view_before e
     (view_before event w)
 view_before_same f m event w = go (is_read event)
   where
-    go : (b : Bool) → (if b then viewed (rebounded f m w) else Ok (rebounded f m w, no_text)) ≡ moved_in f m
-        (if b then viewed w else Ok (w, no_text))
+    go : (b : Bool) → (if b then viewed (rebounded f m w) else Ok (rebounded f m w, no_signals)) ≡ moved_in f m
+        (if b then viewed w else Ok (w, no_signals))
     go true = viewed_same f m w
     go false = refl
 
@@ -132,13 +132,13 @@ asked_same f m s i w SaveUndo =
 asked_same f m s i w RestoreUndo = back_same f m s i w s.undo
 asked_same f m s i w Quit = refl
 
-led_same : (f m : ℕ) (s : State) (i : Instr) (w : GameState) (text : Texts) (n : Next)
+led_same : (f m : ℕ) (s : State) (i : Instr) (w : GameState) (text : Signals) (n : Next)
     → led_to (state_in f m s) i (rebounded f m w) text n ≡ step_in f m (led_to s i w text n)
 unfolding step_in
 led_same f m s i w text (At pc) = refl
 led_same f m s i w text (Asks x) = asked_same f m s i w x
 
-settled_same : (f m : ℕ) (s : State) (i : Instr) (r : Result (GameState × (Next × Texts)) Fault)
+settled_same : (f m : ℕ) (s : State) (i : Instr) (r : Result (GameState × (Next × Signals)) Fault)
     → settled (state_in f m s) i (moved_in f m r) ≡ step_in f m (settled s i r)
 settled_same f m s i r = step_by_same f m _ _ r (λ x. led_same f m s i x.0 x.1.1 x.1.0)
 
@@ -185,7 +185,7 @@ over_is s e h = go (nat_lt s.most_frames (length (frames_of s))) (nat_lt s.most_
     go false false k = absurd cc
 
 -- a step keeps the bounds
-keeps : (s t : State) (text : Texts) → step s ≡ Goes t text → bounds_of t.game.frames ≡ bounds_of s.game.frames
+keeps : (s t : State) (text : Signals) → step s ≡ Goes t text → bounds_of t.game.frames ≡ bounds_of s.game.frames
 unfolding bounds_of step_in
 keeps s t text h =
     let same = step_same s.game.frames.most_frames s.game.frames.most_words s in
@@ -218,7 +218,7 @@ IsNoFrameVerdict _ = Unit {0}
 
 -- what becomes of a step, with other bounds: the same, and the same text
 pub verdict_same : (f m : ℕ) (s : State) (x : Step)
-    → ((t : State) (text : Texts) → x ≡ Goes t text → (t.game.frames.most_frames ≤ f) × (t.game.frames.most_words ≤ m))
+    → ((t : State) (text : Signals) → x ≡ Goes t text → (t.game.frames.most_frames ≤ f) × (t.game.frames.most_words ≤ m))
     → IsNoFrameVerdict (verdict_of s x)
     → (verdict_of (state_in f m s) (step_in f m x) ≡ verdict_of s x)
     × (text_of (state_in f m s) (step_in f m x) ≡ text_of s x)
@@ -247,7 +247,7 @@ past_or_waits : (b : Bool) (pc : ℕ) (waiting : Waiting)
 past_or_waits true pc waiting h = absurd cc
 past_or_waits false pc waiting h = absurd cc
 
-pub goes_on_to : (s : State) (x : Step) → verdict_of s x ≡ GoesOn → (t : State) × ((text : Texts) × (x ≡ Goes t text))
+pub goes_on_to : (s : State) (x : Step) → verdict_of s x ≡ GoesOn → (t : State) × ((text : Signals) × (x ≡ Goes t text))
 goes_on_to s (Goes t text) h = (t, (text, refl))
 goes_on_to s (Waits t waiting text) h = absurd (past_or_waits (is_past_reads s.reads waiting.wait) s.pc waiting h)
 goes_on_to s Quits h = absurd cc
@@ -268,17 +268,17 @@ same_most m n e = ap (λ (p : (ℕ × ℕ) × (List ℕ × ℕ)). p.1.1) e
 
 -- where a step goes on, it counts
 abbrev CountsOn : State → Step → Type 0
-CountsOn s x = (t : State) (text : Texts) → x ≡ Goes t text → Counts s t
+CountsOn s x = (t : State) (text : Signals) → x ≡ Goes t text → Counts s t
 
 goes_counts : (s : State) (undo : List WholeState) (r : Result (GameState × ℕ) Fault)
     → ((x : GameState × ℕ) → r ≡ Ok x → x.0.memory.undo_states ≡ s.game.memory.undo_states)
     → (length s.undo ≤ s.game.memory.undo_states → length undo ≤ s.game.memory.undo_states)
     → CountsOn s (goes_to s undo r)
 goes_counts s undo r most few =
-    step_all (CountsOn s) _ r (λ x e t more h. counted x e t more (sym (goes_same _ t no_text more h)))
+    step_all (CountsOn s) _ r (λ x e t more h. counted x e t more (sym (goes_same _ t no_signals more h)))
     (λ f e t more h. absurd cc)
   where
-    counted : (x : GameState × ℕ) → r ≡ Ok x → (t : State) (more : Texts)
+    counted : (x : GameState × ℕ) → r ≡ Ok x → (t : State) (more : Signals)
         → t ≡ record s { game = x.0; pc = x.1; steps = s.steps + 1; undo = undo } → Counts s t
     counted x e t more same = record {
       steps = ap (λ (u : State). u.steps) same;
@@ -314,7 +314,7 @@ asked_counts s i w SaveUndo most =
 asked_counts s i w RestoreUndo most = back_counts s i w s.undo most (omega arith)
 asked_counts s i w Quit most = λ t more h. absurd cc
 
-led_counts : (s : State) (i : Instr) (w : GameState) (text : Texts) (n : Next)
+led_counts : (s : State) (i : Instr) (w : GameState) (text : Signals) (n : Next)
     → w.memory.undo_states ≡ s.game.memory.undo_states → CountsOn s (led_to s i w text n)
 led_counts s i w text (At pc) most = λ t more h.
     let same = sym (goes_same _ t text more h) in
@@ -333,13 +333,13 @@ settled_counts s i =
     (λ r e. led_counts s i r.0 r.1.1 r.1.0 (same_most s.game.memory r.0.memory (stories_stay s.game i r e)))
     (λ f e t more h. absurd cc)
 
-pub counts : (s t : State) (text : Texts) → step s ≡ Goes t text → Counts s t
+pub counts : (s t : State) (text : Signals) → step s ≡ Goes t text → Counts s t
 unfolding step
 counts s t text = step_all (CountsOn s) _ (instr_at s.game.memory s.pc) (λ i e. settled_counts s i)
     (λ f e t more h. absurd cc) t text
 
 -- a step that goes on leads to a state within the limits
-pub after_goes : (l : Limits) (s t : State) (text : Texts) (u : FrameList) → step s ≡ Goes t text
+pub after_goes : (l : Limits) (s t : State) (text : Signals) (u : FrameList) → step s ≡ Goes t text
     → bounds_of s.game.frames ≡ (l.frames, l.words) → s.game.memory.undo_states ≡ l.undo → s.steps + 1 ≤ l.steps
     → s.reads ≤ most_reads → length s.undo ≤ l.undo
     → within_bounds t.game.frames ≡ Ok u → IsWithin l t × (bounds_of t.game.frames ≡ (l.frames, l.words))

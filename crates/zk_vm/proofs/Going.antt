@@ -9,7 +9,7 @@ use Rattle.zk_state.specs.Frames.{FrameList, within_bounds}
 use Rattle.zk_save.specs.States.{WholeState}
 use Rattle.zk_step.specs.declared.state.game_state.GameState.{GameState}
 use Rattle.zk_step.specs.Limited.{kept, limited_pc}
-use Rattle.zk_step.specs.Routing.{no_text}
+use Rattle.zk_step.specs.Routing.{no_signals}
 use Rattle.zk_vm.specs.declared.stop.Stop.{Stop}
 use Rattle.zk_vm.specs.declared.stop.Stop.TheVariants as stop
 use Rattle.zk_vm.specs.declared.waiting.Waiting.{Waiting}
@@ -37,7 +37,7 @@ stops_by pc (refusal.Limit l) = refl
 
 -- a step in silence goes on in a state that has the game state which was left
 abbrev goes_in : (GameState × ℕ → State) → GameState × ℕ → Step
-goes_in next x = Goes (next x) no_text
+goes_in next x = Goes (next x) no_signals
 
 within_told : (pc : ℕ) (x : GameState × ℕ) (q : Result FrameList Refusal) (led : Result ℕ Refusal) (w : GameState)
     → Told led (kept {B = GameState × ℕ} q x) w → verdict_within pc q ≡ verdict_by pc led

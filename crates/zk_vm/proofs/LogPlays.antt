@@ -42,7 +42,7 @@ left_as t u None free left = left
 left_as t u (Some stop) free left = (left.0, left.1 ∙ sym free, left.2)
 
 -- on targets that bytes wait for, up to where all is given out
-wrote_on : (a b c : Targets) (l : List Entry) → IsFresh a → IsFinished c → Written a b (shown l) (scripted l)
+wrote_on : (a b c : Targets) (l : List Entry) → IsFresh a → IsFinished c → Written a b (signals l)
     → Written b c [] [] → Wrote (record { screen = a.screen; script = a.script })
     (record { screen = c.screen; script = c.script }) c.failed l
 wrote_on a b c l fresh done first rest =
@@ -50,7 +50,7 @@ wrote_on a b c l fresh done first rest =
     record { screen = both.0; script = both.1 }
 
 -- how a run ends whose screen has not failed
-pub ends_whole : {S : Type 0} (shows : S → S → List ℕ → List ℕ → Type 0) (full failed : S → Bool) (x y : S)
+pub ends_whole : {S : Type 0} (shows : S → S → Signals → Type 0) (full failed : S → Bool) (x y : S)
     (bound parts : ℕ) (old to new : Session) (l : List Entry) (answer : Result Event Stop)
     → IfErr answer (λ stop. new.stopped ≡ Some stop) → (failed y ≡ true → ⊥)
     → RunEnds shows full failed x y bound parts old to new l (Err answer) → Ends LacksState false to new answer
@@ -62,11 +62,11 @@ ends_whole shows full failed x y bound parts old to new l (Err stop) stops works
     (free, inr (inr (e, on, broken, same))) = absurd (works broken)
 
 -- no write has failed
-pub ran_whole : {S : Type 0} (shows : S → S → List ℕ → List ℕ → Type 0) (full failed : S → Bool)
+pub ran_whole : {S : Type 0} (shows : S → S → Signals → Type 0) (full failed : S → Bool)
     (Noted : List ℕ → Type 0) (x y : S) (bound parts : ℕ) (old new : Session) (answer : Result Event Stop)
     (a b c : Targets) (r : Ran shows full failed Noted x y bound parts old new (Err answer))
     → IfErr answer (λ stop. new.stopped ≡ Some stop) → (failed y ≡ true → b.failed ≡ true)
-    → Written a b (shown r.log) (scripted r.log) → Written b c [] [] → IsFresh a → IsFinished c → c.failed ≡ false
+    → Written a b (signals r.log) → Written b c [] [] → IsFresh a → IsFinished c → c.failed ≡ false
     → RunsOn (Wrote (record { screen = a.screen; script = a.script })
     (record { screen = c.screen; script = c.script }) c.either) Noted old new answer c.either
 ran_whole shows full failed Noted x y bound parts old new answer a b c r stops broken first rest fresh done sound =
@@ -88,10 +88,10 @@ ran_whole shows full failed Noted x y bound parts old new answer a b c r stops b
     }
 
 -- one has failed
-pub ran_part : {S : Type 0} (shows : S → S → List ℕ → List ℕ → Type 0) (full failed : S → Bool)
+pub ran_part : {S : Type 0} (shows : S → S → Signals → Type 0) (full failed : S → Bool)
     (Noted : List ℕ → Type 0) (x y : S) (bound parts : ℕ) (old new closed : Session) (answer : Result Event Stop)
     (a b c : Targets) (r : Ran shows full failed Noted x y bound parts old new (Err answer))
-    → Written a b (shown r.log) (scripted r.log) → Written b c [] [] → IsFresh a → IsFinished c → c.failed ≡ true
+    → Written a b (signals r.log) → Written b c [] [] → IsFresh a → IsFinished c → c.failed ≡ true
     → closed.stopped ≡ Some Write → closed.waiting ≡ None
     → RunsOn (Wrote (record { screen = a.screen; script = a.script })
     (record { screen = c.screen; script = c.script }) c.either) Noted old closed (Err Write) c.either

@@ -7,7 +7,7 @@ use Rattle.std.proofs.lemmas.List.Elements.{filter_map-append}
 use Rattle.zk_state.specs.declared.refusal.Limit.TheVariants.{Steps}
 use Rattle.zk_step.specs.declared.state.ending.Event.{Event}
 use Rattle.zk_step.specs.declared.state.game_state.GameState.{GameState}
-use Rattle.zk_step.specs.Routing.{Texts, no_text}
+use Rattle.zk_step.specs.Routing.{Signals, no_signals}
 use Rattle.zk_fast.specs.QuietSteps.{GoesBy, IsQuietStep}
 use Rattle.zk_fast.specs.QuietSteps.GoesBy.{nowhere, along}
 use Rattle.zk_vm.specs.declared.stop.Stop.{Stop}
@@ -35,14 +35,14 @@ step_move : (s : Session) → IsOn s → s.left ≡ None → s.state.steps < s.l
     (text_of s.state (step s.state))
 step_move s on whole room =
     move_is (suc (s.limits.steps - s.state.steps - 1)) s on.runs on.free on.silent (omega (arith, room))
-    ∙ ap (λ (left : Option Texts). stepped_to s (verdict_of s.state (step s.state))
+    ∙ ap (λ (left : Option Signals). stepped_to s (verdict_of s.state (step s.state))
     (state_after s.state (step s.state)) (text_left left s.state)) whole
 
 -- a machine with no text left is so after a step
 whole_after : (s : Session) (t : State) → s.left ≡ None → ◌≡◌ {A = Session} (record s { state = t; left = None })
     (record s { state = t })
 whole_after s t whole =
-    ap (λ (left : Option Texts). let x : Session = record s { state = t; left = left } in x) (sym whole)
+    ap (λ (left : Option Signals). let x : Session = record s { state = t; left = left } in x) (sym whole)
 
 -- a machine that goes on stays so where its state changes
 still_on : (s : Session) (t : State) → IsOn s → t.due ≡ [] → IsOn (record s { state = t })
@@ -57,7 +57,7 @@ stays s on = rw (on.runs, on.free) refl
 record Quiet (s t : Session) (places : List ℕ) : Type 0 where
   log : List Entry
   is : LogWith 0 s log t
-  says : Says log no_text
+  says : Says log no_signals
   stands : addresses log ≡ places
 
 quiet_step : (s : Session) (v : GameState) (next : ℕ) → IsOn s → s.left ≡ None → s.state.steps < s.limits.steps
@@ -68,15 +68,15 @@ unfolding woven
 quiet_step s v next on whole room quiet =
     let one = silent_step s.state v next quiet in
     let t : State = record s.state { game = v; pc = next; steps = s.state.steps + 1 } in
-    let is : moved s Goes ≡ stepped_to s GoesOn t no_text = step_move s on whole room
+    let is : moved s Goes ≡ stepped_to s GoesOn t no_signals = step_move s on whole room
     ∙ ap (λ (x : Verdict). stepped_to s x (state_after s.state (step s.state)) (text_of s.state (step s.state)))
     one.goes
     ∙ ap (λ (x : State). stepped_to s GoesOn x (text_of s.state (step s.state))) one.after
-    ∙ ap (λ (x : Texts). stepped_to s GoesOn t x) one.shows in
+    ∙ ap (λ (x : Signals). stepped_to s GoesOn t x) one.shows in
     let there : LogWith 0 s (address_told s.left s.state.pc ++ []) (record s { state = t; left = None }) =
     subst (λ (p : Passed). LogWith 0 s p.entries p.to) is (with_step s) in
     subst (λ (u : Session). LogWith 0 s (At s.state.pc ∷ []) u) (whole_after s t whole)
-    (subst (λ (left : Option Texts). LogWith 0 s (address_told left s.state.pc ++ [])
+    (subst (λ (left : Option Signals). LogWith 0 s (address_told left s.state.pc ++ [])
     (record s { state = t; left = None })) whole there)
 
 goes_quiet : (places : List ℕ) (w end : GameState) (pc last : ℕ) → GoesBy places w pc end last → (s : Session)
@@ -104,34 +104,33 @@ goes_quiet _ _ _ _ _ (along {places} {w} {v} {end} {pc} {next} {last} quiet rest
 -- ---- on a screen
 
 -- a log so far, with so many parts of texts, which a screen got, of a machine that goes on and has no text left
-pub record On {S : Type 0} (shows : S → S → List ℕ → List ℕ → Type 0) (Noted : List ℕ → Type 0) (parts : ℕ)
+pub record On {S : Type 0} (shows : S → S → Signals → Type 0) (Noted : List ℕ → Type 0) (parts : ℕ)
     (a now : S) (old s : Session) : Type 0 where
   pub log : List Entry
   pub is : LogWith parts old log s
   pub alone : answers_in log ≡ []
-  pub got : shows a now (shown log) (scripted log)
+  pub got : shows a now (signals log)
   pub noted : Noted (addresses log)
   pub left : s ≡ record old { state = s.state }
   pub on : IsOn s
   pub whole : s.left ≡ None
 
-module _ {S : Type 0} (shows : S → S → List ℕ → List ℕ → Type 0) (nothing : (a : S) → shows a a [] [])
-    (twice : (a b c : S) (s t u v : List ℕ) → shows a b s u → shows b c t v → shows a c (s ++ t) (u ++ v)) where
-  got_both : (a b c : S) (l m : List Entry) (text : Texts) → shows a b (shown l) (scripted l) → Says m text
-      → shows b c text.screen text.script → shows a c (shown (l ++ m)) (scripted (l ++ m))
+module _ {S : Type 0} (shows : S → S → Signals → Type 0) (nothing : (a : S) → shows a a [])
+    (twice : (a b c : S) (s t : Signals) → shows a b s → shows b c t → shows a c (s ++ t)) where
+  got_both : (a b c : S) (l m : List Entry) (text : Signals) → shows a b (signals l) → Says m text
+      → shows b c text → shows a c (signals (l ++ m))
   got_both a b c l m text h says k =
       rw (filter_map-append shown_in l m, filter_map-append scripted_in l m, says.screen, says.script)
       (twice a b c (shown l) text.screen (scripted l) text.script h k)
 
-  got_twice : (a b c : S) (l m : List Entry) → shows a b (shown l) (scripted l) → shows b c (shown m) (scripted m)
-      → shows a c (shown (l ++ m)) (scripted (l ++ m))
+  got_twice : (a b c : S) (l m : List Entry) → shows a b (signals l) → shows b c (signals m)
+      → shows a c (signals (l ++ m))
   got_twice a b c l m h k = rw (filter_map-append shown_in l m, filter_map-append scripted_in l m)
       (twice a b c (shown l) (shown m) (scripted l) (scripted m) h k)
 
   -- what holds of the screen since the last move of a log
   last_by : (holds : S → Bool) (a now b : S) (old s : Session) (log : List Entry) (m : _) → IsLog old log s
-      → shows a now (shown log) (scripted log) → shows now b (shown (moved s m).entries)
-      (scripted (moved s m).entries) → holds now ≡ false → holds b ≡ true
+      → shows a now (signals log) → shows now b (signals (moved s m).entries) → holds now ≡ false → holds b ≡ true
       → AtLast shows holds a b old (moved s m).to (log ++ (moved s m).entries)
   last_by holds a now b old s log m is got gets before after =
       record {
@@ -150,13 +149,12 @@ module _ {S : Type 0} (shows : S → S → List ℕ → List ℕ → Type 0) (no
 
   -- it holds since a move at which nothing passed
   last_silent : (holds : S → Bool) (a now b : S) (old s : Session) (log : List Entry) → IsOn s → IsLog old log s
-      → shows a now (shown log) (scripted log) → shows now b [] [] → holds now ≡ false → holds b ≡ true
+      → shows a now (signals log) → shows now b [] → holds now ≡ false → holds b ≡ true
       → AtLast shows holds a b old s log
   last_silent holds a now b old s log on is got gets before after =
       let none = stays s on in
-      let gets_none : shows now b (shown (moved s (Gets (Typed []))).entries)
-      (scripted (moved s (Gets (Typed []))).entries) =
-      subst (λ (p : Passed). shows now b (shown p.entries) (scripted p.entries)) (sym none) gets in
+      let gets_none : shows now b (signals (moved s (Gets (Typed []))).entries) =
+      subst (λ (p : Passed). shows now b (signals p.entries)) (sym none) gets in
       let last = last_by holds a now b old s log (Gets (Typed [])) is got gets_none before after in
       subst (λ (l : List Entry). AtLast shows holds a b old s l) (append-nil log)
       (subst (λ (p : Passed). AtLast shows holds a b old p.to (log ++ p.entries)) none last)
@@ -168,7 +166,7 @@ module _ {S : Type 0} (shows : S → S → List ℕ → List ℕ → Type 0) (no
     pub is : LogWith 0 s log (told_due s)
     pub alone : answers_in log ≡ []
     pub nowhere : addresses log ≡ []
-    pub got : shows a b (shown log) (scripted log)
+    pub got : shows a b (signals log)
     pub last : (holds : S → Bool) → holds a ≡ false → holds b ≡ true → AtLast shows holds a b s (told_due s) log
 
   due_by : (a b : S) (s : Session) (due : List ℕ) → s.state.due ≡ due → s.stopped ≡ None → s.waiting ≡ None
@@ -189,7 +187,7 @@ module _ {S : Type 0} (shows : S → S → List ℕ → List ℕ → Type 0) (no
   due_by a b s (c ∷ cs) e runs free h =
       let is : moved s Goes ≡ goes_by (c ∷ cs) s = rw (runs, free, e) refl in
       let says = says_script (c ∷ cs) in
-      let got : shows a b (shown (map Scripted (c ∷ cs))) (scripted (map Scripted (c ∷ cs))) = rw (
+      let got : shows a b (signals (map Scripted (c ∷ cs))) = rw (
         says.screen,
         says.script,
       ) h in
@@ -200,8 +198,8 @@ module _ {S : Type 0} (shows : S → S → List ℕ → List ℕ → Type 0) (no
         nowhere = script_nowhere (c ∷ cs);
         got = got;
         last = λ holds before after.
-            let gets : shows a b (shown (moved s Goes).entries) (scripted (moved s Goes).entries) =
-            subst (λ (p : Passed). shows a b (shown p.entries) (scripted p.entries)) (sym is) got in
+            let gets : shows a b (signals (moved s Goes).entries) =
+            subst (λ (p : Passed). shows a b (signals p.entries)) (sym is) got in
             subst (λ (p : Passed). AtLast shows holds a b s p.to p.entries) is
             (last_by holds a a b s s [] Goes (no_log s) (nothing a) gets before after);
       }
@@ -210,7 +208,7 @@ module _ {S : Type 0} (shows : S → S → List ℕ → List ℕ → Type 0) (no
   due_got a b s runs free h = due_by a b s s.state.due refl runs free h
 
   last_on : (holds : S → Bool) (a b c : S) (old mid to : Session) (l m : List Entry) → IsLog old l mid
-      → shows a b (shown l) (scripted l) → AtLast shows holds b c mid to m → AtLast shows holds a c old to (l ++ m)
+      → shows a b (signals l) → AtLast shows holds b c mid to m → AtLast shows holds a c old to (l ++ m)
   last_on holds a b c old mid to l m is got x = record {
     first = l ++ x.first;
     mid = x.mid;
@@ -259,7 +257,7 @@ module _ {S : Type 0} (shows : S → S → List ℕ → List ℕ → Type 0) (no
           with_both parts 0 parts old s (record s { state = t }) on.log quiet.log (omega arith) on.on.runs
           on.is quiet.is;
       alone = answers_both on.log quiet.log on.alone quiet.says.alone;
-      got = got_both a now now on.log quiet.log no_text on.got quiet.says (nothing now);
+      got = got_both a now now on.log quiet.log no_signals on.got quiet.says (nothing now);
       noted = h;
       left = ap (λ (m : Session). let x : Session = record m { state = t } in x) on.left;
       on = still_on s t on.on silent;
@@ -287,14 +285,14 @@ module _ {S : Type 0} (shows : S → S → List ℕ → List ℕ → Type 0) (no
         (log : List Entry) : Type 0 where
       pub is : LogWith parts old (log ++ (moved s Goes).entries) (moved s Goes).to
       pub alone : answers_in (log ++ (moved s Goes).entries) ≡ []
-      pub got : shows a b (shown (log ++ (moved s Goes).entries)) (scripted (log ++ (moved s Goes).entries))
+      pub got : shows a b (signals (log ++ (moved s Goes).entries))
       pub noted : Noted (addresses (log ++ (moved s Goes).entries))
       pub last : (holds : S → Bool) → holds now ≡ false → holds b ≡ true
           → AtLast shows holds a b old (moved s Goes).to (log ++ (moved s Goes).entries)
 
-    next_on : (Before Noted : List ℕ → Type 0) (parts : ℕ) (a now b : S) (old s : Session) (text : Texts)
+    next_on : (Before Noted : List ℕ → Type 0) (parts : ℕ) (a now b : S) (old s : Session) (text : Signals)
         (on : On shows Before parts a now old s) → Says (moved s Goes).entries text
-        → shows now b text.screen text.script → Noted (addresses (on.log ++ (moved s Goes).entries))
+        → shows now b text → Noted (addresses (on.log ++ (moved s Goes).entries))
         → Next Noted parts a now b old s on.log
     next_on Before Noted parts a now b old s text on says h n = record {
       is = with_both parts 0 parts old s (moved s Goes).to on.log (moved s Goes).entries (omega arith) on.on.runs
@@ -308,7 +306,7 @@ module _ {S : Type 0} (shows : S → S → List ℕ → List ℕ → Type 0) (no
 
     step_on : (Before Noted : List ℕ → Type 0) (parts : ℕ) (a now b : S) (old s : Session)
         (on : On shows Before parts a now old s) → s.state.steps < s.limits.steps
-        → shows now b (text_of s.state (step s.state)).screen (text_of s.state (step s.state)).script
+        → shows now b (text_of s.state (step s.state))
         → Noted (addresses on.log ++ s.state.pc ∷ []) → Next Noted parts a now b old s on.log
     step_on Before Noted parts a now b old s on room h n =
         let is = step_move s on.on on.whole room in
@@ -318,7 +316,7 @@ module _ {S : Type 0} (shows : S → S → List ℕ → List ℕ → Type 0) (no
         let stands : addresses (moved s Goes).entries ≡ s.state.pc ∷ [] = ap (λ (p : Passed). addresses p.entries)
         is ∙ step_stands s (verdict_of s.state (step s.state)) (state_after s.state (step s.state))
         (text_of s.state (step s.state))
-        ∙ ap (λ (left : Option Texts). addresses (address_told left s.state.pc)) on.whole in
+        ∙ ap (λ (left : Option Signals). addresses (address_told left s.state.pc)) on.whole in
         next_on Before Noted parts a now b old s (text_of s.state (step s.state)) on says h
         (subst Noted (sym (addresses_both on.log (moved s Goes).entries (addresses on.log) (s.state.pc ∷ [])
         refl stands)) n)
@@ -366,7 +364,7 @@ module _ {S : Type 0} (shows : S → S → List ℕ → List ℕ → Type 0) (no
           ap (λ (x : Passed). x.to.stopped) is
           ∙ ap (λ (v : Verdict). (stepped_to m v (state_after t (step t)) (text_of t (step t))).to.stopped)
           made.0 in
-          let still : shows now now (text_of t (step t)).screen (text_of t (step t)).script = rw (made.1)
+          let still : shows now now (text_of t (step t)) = rw (made.1)
           (nothing now) in
           let stands : addresses (on.log ++ quiet.log) ≡ addresses on.log ++ places = addresses_both on.log
           quiet.log (addresses on.log) places refl quiet.stands in
@@ -397,7 +395,7 @@ module _ {S : Type 0} (shows : S → S → List ℕ → List ℕ → Type 0) (no
       }
       on_bound p q parts a now old s (Err h) on works at few =
           let is = move_is zero s on.on.runs on.on.free on.on.silent (omega (arith, few.1)) in
-          let says = subst (λ (x : Passed). Says x.entries no_text) (sym is)
+          let says = subst (λ (x : Passed). Says x.entries no_signals) (sym is)
           (says_stop (stops.Limit s.state.pc Steps)) in
           let nowhere : addresses (moved s Goes).entries ≡ [] = ap (λ (x : Passed). addresses x.entries) is in
           let stopped : (moved s Goes).to.stopped ≡ Some (stops.Limit s.state.pc Steps) =
@@ -405,12 +403,12 @@ module _ {S : Type 0} (shows : S → S → List ℕ → List ℕ → Type 0) (no
           let same : addresses (on.log ++ (moved s Goes).entries) ≡ addresses on.log = addresses_both on.log
           (moved s Goes).entries (addresses on.log) [] refl nowhere ∙ append-nil (addresses on.log) in
           by_next (notes p q) (notes p q) parts a now now old s s h on works
-          (next_on (notes p q) (notes p q) parts a now now old s no_text on says (nothing now)
+          (next_on (notes p q) (notes p q) parts a now now old s no_signals on says (nothing now)
           (subst (notes p q) (sym same) on.noted)) (rw (few.0) (on.on.free, inl stopped))
 
       -- with a step
       ends_so : (parts : ℕ) (a b : S) (old s new : Session) (l : List Entry) (h : Halt) (v : Verdict) (t : State)
-          (text : Texts) → Err h ≡ halt_by v → IsLeftAt s new v t → s.left ≡ None
+          (text : Signals) → Err h ≡ halt_by v → IsLeftAt s new v t → s.left ≡ None
           → RunEnds shows full failed a b bound parts old (stepped_to s v t text).to new l (Err h)
       ends_so parts a b old s new l h GoesOn t text tells left whole = absurd cc
       ends_so parts a b old s new l (Ok e) (WaitsFor w) t text tells left whole = (
@@ -424,7 +422,7 @@ module _ {S : Type 0} (shows : S → S → List ℕ → List ℕ → Type 0) (no
 
       pub on_end : (p q r : P) (parts : ℕ) (a now b : S) (old s new : Session) (h : Halt)
           → On shows (notes p q) parts a now old s → s.state.steps < s.limits.steps → failed now ≡ false
-          → notes q r (s.state.pc ∷ []) → IsStep s new (Err h) (λ t. shows now b t.screen t.script)
+          → notes q r (s.state.pc ∷ []) → IsStep s new (Err h) (λ t. shows now b t)
           → Ran shows full failed (notes p r) a b bound parts old new (Err h)
       on_end p q r parts a now b old s new h on room works one (inl made) =
           let is = step_move s on.on on.whole room in
@@ -461,7 +459,7 @@ module _ {S : Type 0} (shows : S → S → List ℕ → List ℕ → Type 0) (no
         pub on : On shows Noted parts a b old new
         pub last : (holds : S → Bool) → holds now ≡ false → holds b ≡ true → AtLast shows holds a b old new on.log
 
-      goes_step : (s new : Session) (Shown : Texts → Type 0) → IsStep s new (Ok tt) Shown
+      goes_step : (s new : Session) (Shown : Signals → Type 0) → IsStep s new (Ok tt) Shown
           → StepsTo (step s.state) s new (Ok tt) Shown
       goes_step s new Shown (inl h) = h
       goes_step s new Shown (inr h) = let not = h.0 in absurd cc
@@ -473,10 +471,10 @@ module _ {S : Type 0} (shows : S → S → List ℕ → List ℕ → Type 0) (no
 
       pub on_step : (p q r : P) (parts : ℕ) (a now b : S) (old s new : Session)
           → On shows (notes p q) parts a now old s → s.state.steps < s.limits.steps → new.state.due ≡ s.state.due
-          → notes q r (s.state.pc ∷ []) → IsStep s new (Ok tt) (λ t. shows now b t.screen t.script)
+          → notes q r (s.state.pc ∷ []) → IsStep s new (Ok tt) (λ t. shows now b t)
           → WentOn (notes p r) parts a now b old new
       on_step p q r parts a now b old s new on room due one stepped =
-          let made = goes_step s new (λ (t : Texts). shows now b t.screen t.script) stepped in
+          let made = goes_step s new (λ (t : Signals). shows now b t) stepped in
           let goes = goes_by_halt (verdict_of s.state (step s.state)) made.tells in
           let t = state_after s.state (step s.state) in
           let left : new ≡ record s { state = t } = subst (λ (v : Verdict). IsLeftAt s new v t) goes made.left in
@@ -544,7 +542,7 @@ module _ {S : Type 0} (shows : S → S → List ℕ → List ℕ → Type 0) (no
 
   module _ (full failed : S → Bool) (Noted : List ℕ → Type 0) where
     ends_on : (a b c : S) (bound parts : ℕ) (old mid to new : Session) (l m : List Entry)
-        (answer : Result (Unit {0}) Halt) → IsLog old l mid → shows a b (shown l) (scripted l)
+        (answer : Result (Unit {0}) Halt) → IsLog old l mid → shows a b (signals l)
         → RunEnds shows full failed b c bound parts mid to new m answer
         → RunEnds shows full failed a c bound parts old to new (l ++ m) answer
     ends_on a b c bound parts old mid to new l m (Ok u) is got (there, on, works, inl at) = (there, on, works, inl at)
@@ -687,7 +685,7 @@ pub asked_waits : (new to : Session) (e : Event) → (new ≡ to) × (event_wait
 asked_waits new to e (same, h) = let w = waits_so to.waiting e h in (w.0, ap (λ (s : Session). s.waiting) same ∙ w.1.0)
 
 -- a run whose screen is never full comes to no pause that is further than its limit
-pub no_pause : {S : Type 0} (shows : S → S → List ℕ → List ℕ → Type 0) (full failed : S → Bool)
+pub no_pause : {S : Type 0} (shows : S → S → Signals → Type 0) (full failed : S → Bool)
     (Noted : List ℕ → Type 0) (a b : S) (bound : ℕ) (old new : Session) → ((x : S) → full x ≡ false)
     → new.limits.steps ≤ bound → Ran shows full failed Noted a b bound 0 old new (Ok tt) → ⊥
 no_pause {S} shows full failed Noted a b bound old new endless far r = go r.ends

@@ -9,7 +9,7 @@ use Rattle.zk_state.specs.declared.refusal.Refusal.TheVariants as refusal
 use Rattle.zk_state.specs.Frames.{FrameList, within_bounds}
 use Rattle.zk_step.specs.declared.state.ending.Event.{Event}
 use Rattle.zk_step.specs.declared.state.ending.Event.TheVariants.{Line, Char, Save, Restore}
-use Rattle.zk_step.specs.Routing.{Texts, no_text, on_script, text_joined}
+use Rattle.zk_step.specs.Routing.{Signals, no_signals, on_script, text_joined}
 use Rattle.zk_vm.specs.declared.stop.Stop.{Stop}
 use Rattle.zk_vm.specs.declared.waiting.Waiting.{Waiting}
 use Rattle.zk_vm.specs.Answers.{Answer, answered, answered_by, codes_of, is_kept, file_of}
@@ -253,7 +253,7 @@ woven_alone [] = refl
 woven_alone (x ∷ l) = refl
 
 -- a log shows a text, and has no answer
-pub record Says (l : List Entry) (t : Texts) : Type 0 where
+pub record Says (l : List Entry) (t : Signals) : Type 0 where
   pub screen : shown l ≡ t.screen
   pub script : scripted l ≡ t.script
   pub alone : answers_in l ≡ []
@@ -261,7 +261,7 @@ pub record Says (l : List Entry) (t : Texts) : Type 0 where
 pub answers_both : (l m : List Entry) → answers_in l ≡ [] → answers_in m ≡ [] → answers_in (l ++ m) ≡ []
 answers_both l m e f = rw (filter_map-append answer_in l m, e, f) refl
 
-pub says_both : (l m : List Entry) (t u : Texts) → Says l t → Says m u → Says (l ++ m) (text_joined t u)
+pub says_both : (l m : List Entry) (t u : Signals) → Says l t → Says m u → Says (l ++ m) (text_joined t u)
 says_both l m t u a b = record {
   screen = rw (filter_map-append shown_in l m, a.screen, b.screen) refl;
   script = rw (filter_map-append scripted_in l m, a.script, b.script) refl;
@@ -289,16 +289,16 @@ says_woven (c ∷ cs) (d ∷ ds) = let rest = says_woven cs ds in
       alone = rest.alone;
     }
 
-pub says_told : (t : Texts) → Says (told t) t
-says_told t = says_woven t.screen t.script
+pub says_told : (t : Signals) → Says (told t) t
+says_told t = says_woven t
 
-pub says_at : (pc : ℕ) (l : List Entry) (t : Texts) → Says l t → Says (At pc ∷ l) t
+pub says_at : (pc : ℕ) (l : List Entry) (t : Signals) → Says l t → Says (At pc ∷ l) t
 says_at pc l t h = record { screen = h.screen; script = h.script; alone = h.alone }
 
-pub says_stop : (stop : Stop) → Says (Stopped stop ∷ []) no_text
+pub says_stop : (stop : Stop) → Says (Stopped stop ∷ []) no_signals
 says_stop stop = record { screen = refl; script = refl; alone = refl }
 
-pub says_nothing : Says [] no_text
+pub says_nothing : Says [] no_signals
 says_nothing = record { screen = refl; script = refl; alone = refl }
 
 pub addresses_both : (l m : List Entry) (a b : List ℕ) → addresses l ≡ a → addresses m ≡ b → addresses (l ++ m) ≡ a ++ b
@@ -314,26 +314,26 @@ woven_nowhere [] ds = script_nowhere ds
 woven_nowhere (c ∷ cs) [] = rw (woven_alone (map Shown cs)) at (woven_nowhere cs [])
 woven_nowhere (c ∷ cs) (d ∷ ds) = woven_nowhere cs ds
 
-pub told_nowhere : (t : Texts) → addresses (told t) ≡ []
-told_nowhere t = woven_nowhere t.screen t.script
+pub told_nowhere : (t : Signals) → addresses (told t) ≡ []
+told_nowhere t = woven_nowhere t
 
 -- ---- a step
 
-pub says_address : (left : Option Texts) (pc : ℕ) (l : List Entry) (t : Texts) → Says l t
+pub says_address : (left : Option Signals) (pc : ℕ) (l : List Entry) (t : Signals) → Says l t
     → Says (address_told left pc ++ l) t
 says_address None pc l t h = says_at pc l t h
 says_address (Some u) pc l t h = h
 
-pub says_step : (s : Session) (v : Verdict) (t : State) (text : Texts) → Says (stepped_to s v t text).entries text
+pub says_step : (s : Session) (v : Verdict) (t : State) (text : Signals) → Says (stepped_to s v t text).entries text
 says_step s GoesOn t text = says_address s.left s.state.pc (told text) text (says_told text)
 says_step s (WaitsFor w) t text = says_address s.left s.state.pc (told text) text (says_told text)
 says_step s (StopsBy stop) t text =
     says_address s.left s.state.pc (told text ++ Stopped stop ∷ []) text
     (rw (append-nil text.screen, append-nil text.script) at
-    (says_both (told text) (Stopped stop ∷ []) text no_text (says_told text) (says_stop stop)))
+    (says_both (told text) (Stopped stop ∷ []) text no_signals (says_told text) (says_stop stop)))
 
 -- it stands at one address, unless that was told before
-pub step_stands : (s : Session) (v : Verdict) (t : State) (text : Texts)
+pub step_stands : (s : Session) (v : Verdict) (t : State) (text : Signals)
     → addresses (stepped_to s v t text).entries ≡ addresses (address_told s.left s.state.pc)
 step_stands s GoesOn t text = rw (append-nil (addresses (address_told s.left s.state.pc))) at
     (addresses_both (address_told s.left s.state.pc) (told text) _ [] refl (told_nowhere text))

@@ -6,7 +6,7 @@ use Rattle.zk_state.specs.declared.refusal.Limit.TheVariants.{Reads}
 use Rattle.zk_state.specs.declared.refusal.Refusal.{Refusal}
 use Rattle.zk_state.specs.declared.refusal.Refusal.TheVariants as refusal
 use Rattle.zk_state.specs.Frames.{FrameList, within_bounds}
-use Rattle.zk_step.specs.Routing.{Texts}
+use Rattle.zk_step.specs.Routing.{Signals}
 use Rattle.zk_vm.specs.declared.stop.Stop.{Stop}
 use Rattle.zk_vm.specs.declared.stop.Stop.TheVariants.{Limit}
 use Rattle.zk_vm.specs.declared.waiting.Waiting.{Waiting}
@@ -72,15 +72,15 @@ moved_gets s w a runs waits = ap (λ (x : Option Stop). moved_by x s.waiting s (
 -- and where an answer leads on
 pub record IsKeptBy (K : Session → Type 0) (s : Session) (m : Move) : Type 0 where
   pub silent : s.waiting ≡ None → K (record s { state = record s.state { due = [] } })
-  pub part : (left : Option Texts) → K (record s { left = left })
-  pub goes : (t : State) (text : Texts) (u : FrameList) → s.stopped ≡ None → s.waiting ≡ None → s.state.due ≡ []
+  pub part : (left : Option Signals) → K (record s { left = left })
+  pub goes : (t : State) (text : Signals) (u : FrameList) → s.stopped ≡ None → s.waiting ≡ None → s.state.due ≡ []
       → m ≡ Goes → s.state.steps < s.limits.steps → step s.state ≡ GoesTo t text
       → within_bounds t.game.frames ≡ Ok u → K (record s { state = t; left = None })
-  pub waits : (t : State) (w : Waiting) (text : Texts) → s.stopped ≡ None → s.waiting ≡ None → s.state.due ≡ []
+  pub waits : (t : State) (w : Waiting) (text : Signals) → s.stopped ≡ None → s.waiting ≡ None → s.state.due ≡ []
       → m ≡ Goes → s.state.steps < s.limits.steps → step s.state ≡ Waits t w text
       → is_past_reads s.state.reads w.wait ≡ false
       → K (record s { state = t; waiting = Some w; left = None })
-  pub gets : (w : Waiting) (a : Answer) (t : State) (text : Texts) (u : FrameList) → s.stopped ≡ None
+  pub gets : (w : Waiting) (a : Answer) (t : State) (text : Signals) (u : FrameList) → s.stopped ≡ None
       → s.waiting ≡ Some w → m ≡ Gets a → answered s.state w a ≡ GoesTo t text → within_bounds t.game.frames ≡ Ok u
       → K (record s { state = t; waiting = None })
 
@@ -90,21 +90,21 @@ module _ (K : Session → Type 0) (s : Session) (k : K s) where
   steps_kept h zero runs free silent left on = absurd cc
   steps_kept h (suc n) runs free silent left on = by (step s.state) (text_left s.left s.state) refl on
     where
-      goes : (t : State) (text shown : Texts) (r : Result FrameList Refusal) → step s.state ≡ GoesTo t text
+      goes : (t : State) (text shown : Signals) (r : Result FrameList Refusal) → step s.state ≡ GoesTo t text
           → within_bounds t.game.frames ≡ r → (stepped_to s (verdict_within s.state.pc r) t shown).to.stopped ≡ None
           → K (stepped_to s (verdict_within s.state.pc r) t shown).to
       goes t text shown (Ok u) e i o = h.goes t text u runs free silent refl (omega (arith, left)) e i
       goes t text shown (Err (refusal.Limit l)) e i o = absurd cc
       goes t text shown (Err (refusal.Fault f)) e i o = absurd cc
 
-      waits : (t : State) (w : Waiting) (text shown : Texts) (b : Bool) → step s.state ≡ Waits t w text
+      waits : (t : State) (w : Waiting) (text shown : Signals) (b : Bool) → step s.state ≡ Waits t w text
           → is_past_reads s.state.reads w.wait ≡ b
           → (stepped_to s (if b then StopsBy (Limit s.state.pc Reads) else WaitsFor w) t shown).to.stopped ≡ None
           → K (stepped_to s (if b then StopsBy (Limit s.state.pc Reads) else WaitsFor w) t shown).to
       waits t w text shown true e i o = absurd cc
       waits t w text shown false e i o = h.waits t w text runs free silent refl (omega (arith, left)) e i
 
-      by : (x : Step) (shown : Texts) → step s.state ≡ x
+      by : (x : Step) (shown : Signals) → step s.state ≡ x
           → (stepped_to s (verdict_of s.state x) (state_after s.state x) shown).to.stopped ≡ None
           → K (stepped_to s (verdict_of s.state x) (state_after s.state x) shown).to
       by (GoesTo t text) shown e o = goes t text shown (within_bounds t.game.frames) e refl o
@@ -113,7 +113,7 @@ module _ (K : Session → Type 0) (s : Session) (k : K s) where
       by (Faults f) shown e o = absurd cc
       by (Exceeds l) shown e o = absurd cc
 
-  parted_kept : (silent : Bool) (n : ℕ) (h : IsKeptBy K s (Part n)) (v : Verdict) (t : State) (text : Texts)
+  parted_kept : (silent : Bool) (n : ℕ) (h : IsKeptBy K s (Part n)) (v : Verdict) (t : State) (text : Signals)
       → (parted_to silent n s v t text).to.stopped ≡ None → K (parted_to silent n s v t text).to
   parted_kept true n h v t text on = h.part _
   parted_kept false n h GoesOn t text on = h.part _

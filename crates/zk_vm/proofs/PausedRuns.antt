@@ -18,7 +18,7 @@ use Rattle.zk_step.specs.declared.state.game_state.GameState.{GameState}
 use Rattle.zk_step.specs.Effects.{effect_of}
 use Rattle.zk_step.specs.Halves.{IsHalf, rest_text, text_due, text_first, text_later}
 use Rattle.zk_step.specs.Printing.{IsLong}
-use Rattle.zk_step.specs.Routing.{Texts, no_text}
+use Rattle.zk_step.specs.Routing.{Signals, no_signals}
 use Rattle.zk_step.specs.Saving.{saving}
 use Rattle.zk_vm.specs.declared.stop.Stop.TheVariants as stops
 use Rattle.zk_vm.specs.Going.{GoesAhead, StopsAhead}
@@ -44,7 +44,7 @@ use Rattle.zk_vm.proofs.Pauses.{ShowsHalf, same_instr, shows_half}
 
 -- a machine with no text left
 pub told_same : (s : Session) → s.left ≡ None → with_left s None ≡ s
-told_same s whole = ap (λ (left : Option Texts). let x : Session = record s { left = left } in x) (sym whole)
+told_same s whole = ap (λ (left : Option Signals). let x : Session = record s { left = left } in x) (sym whole)
 
 -- an instruction in the middle of its text keeps no state
 never_keeps : (found : GameState) (i : Instr) (codes : List ℕ) (draft : Windows) (h : Half)
@@ -64,20 +64,20 @@ due_left w (Some h) s e = refl
 
 -- ---- on a screen
 
-module _ {S : Type 0} (shows : S → S → List ℕ → List ℕ → Type 0) (nothing : (a : S) → shows a a [] [])
-    (twice : (a b c : S) (s t u v : List ℕ) → shows a b s u → shows b c t v → shows a c (s ++ t) (u ++ v)) where
-  says_got : (a b : S) (l : List Entry) (t : Texts) → Says l t → shows a b t.screen t.script
-      → shows a b (shown l) (scripted l)
+module _ {S : Type 0} (shows : S → S → Signals → Type 0) (nothing : (a : S) → shows a a [])
+    (twice : (a b c : S) (s t : Signals) → shows a b s → shows b c t → shows a c (s ++ t)) where
+  says_got : (a b : S) (l : List Entry) (t : Signals) → Says l t → shows a b t
+      → shows a b (signals l)
   says_got a b l t says h = rw (says.screen, says.script) h
 
-  got_twice : (a b c : S) (l m : List Entry) → shows a b (shown l) (scripted l) → shows b c (shown m) (scripted m)
-      → shows a c (shown (l ++ m)) (scripted (l ++ m))
+  got_twice : (a b c : S) (l m : List Entry) → shows a b (signals l) → shows b c (signals m)
+      → shows a c (signals (l ++ m))
   got_twice a b c l m h k = rw (filter_map-append shown_in l m, filter_map-append scripted_in l m)
       (twice a b c (shown l) (shown m) (scripted l) (scripted m) h k)
 
   -- ---- one move
 
-  goes_only : (s new : Session) (Shown : Texts → Type 0) → IsStep s new (Ok tt) Shown
+  goes_only : (s new : Session) (Shown : Signals → Type 0) → IsStep s new (Ok tt) Shown
       → StepsTo (step s.state) s new (Ok tt) Shown
   goes_only s new Shown (inl h) = h
   goes_only s new Shown (inr h) = let not = h.0 in absurd cc
@@ -115,7 +115,7 @@ module _ {S : Type 0} (shows : S → S → List ℕ → List ℕ → Type 0) (no
             ∙ ap (λ (x : Verdict). (stepped_to (with_left s half) x t text).to) goes);
         alone = says.alone;
         got = says_got a b (moved (with_left s half) Goes).entries text says
-            (subst (λ (x : Texts). shows a b x.screen x.script) (due_left s.state.game half s.state refl) made.shown);
+            (subst (λ (x : Signals). shows a b x) (due_left s.state.game half s.state refl) made.shown);
         on =
             record {
               runs = ap (λ (m : Session). m.stopped) there ∙ on.runs;
@@ -171,11 +171,11 @@ module _ {S : Type 0} (shows : S → S → List ℕ → List ℕ → Type 0) (no
         move = Part n;
         counted = refl;
         there = ap (λ (m : Session). with_left m (Some h)) cut.same
-            ∙ ap (λ (t : Texts). let x : Session = record s { left = Some t } in x) later
+            ∙ ap (λ (t : Signals). let x : Session = record s { left = Some t } in x) later
             ∙ sym (ap (λ (p : Passed). p.to) is);
         alone = says.alone;
         got = says_got a b (moved u (Part n)).entries (text_first n text) says
-            (subst (λ (x : Texts). shows a b (text_first n x).screen (text_first n x).script) same cut.shown.shown);
+            (subst (λ (x : Signals). shows a b (text_first n x)) same cut.shown.shown);
         on =
             record {
               runs = ap (λ (m : Session). m.stopped) cut.same ∙ on.runs;
@@ -187,8 +187,8 @@ module _ {S : Type 0} (shows : S → S → List ℕ → List ℕ → Type 0) (no
   -- ---- the ends
 
   lacks_text : (a b : S) (s : Session) (half : Option Half) (codes : List ℕ) (draft : Windows)
-      → IfSome half (StandsHalf s codes draft) → IsKeeping s.state → GotDue shows a b s.state.game half no_text
-      → shows a b [] []
+      → IfSome half (StandsHalf s codes draft) → IsKeeping s.state → GotDue shows a b s.state.game half no_signals
+      → shows a b []
   lacks_text a b s None codes draft stands keeping got = got
   lacks_text a b s (Some h) codes draft stands keeping got =
       let same = same_instr (instr_at s.state.game.memory s.state.pc) keeping.instruction stands.instruction
@@ -198,8 +198,7 @@ module _ {S : Type 0} (shows : S → S → List ℕ → List ℕ → Type 0) (no
 
   module _ (full failed : S → Bool) where
     -- what holds of the screen since a move
-    since : (holds : S → Bool) (a b : S) (u : Session) (m : Move) → shows a b (shown (moved u m).entries)
-        (scripted (moved u m).entries) → holds a ≡ false → holds b ≡ true
+    since : (holds : S → Bool) (a b : S) (u : Session) (m : Move) → shows a b (signals (moved u m).entries) → holds a ≡ false → holds b ≡ true
         → AtLast shows holds a b u (moved u m).to (moved u m).entries
     since holds a b u m gets before after =
         record {
@@ -217,7 +216,7 @@ module _ {S : Type 0} (shows : S → S → List ℕ → List ℕ → Type 0) (no
         }
 
     ends_so : (bound : ℕ) (a b : S) (s new : Session) (half : Option Half) (l : List Entry) (h : Halt)
-        (v : Verdict) (t : State) (text : Texts) → Err h ≡ halt_by v → IsLeftAt s new v t
+        (v : Verdict) (t : State) (text : Signals) → Err h ≡ halt_by v → IsLeftAt s new v t
         → RunEnds shows full failed a b bound 0 (with_left s half) (stepped_to (with_left s half) v t text).to
         (with_left new None) l (Err h)
     ends_so bound a b s new half l h GoesOn t text tells left = absurd cc
@@ -227,13 +226,12 @@ module _ {S : Type 0} (shows : S → S → List ℕ → List ℕ → Type 0) (no
     ends_so bound a b s new half l (Ok e) (StopsBy stop) t text tells left = absurd cc
     ends_so bound a b s new half l (Err x) (StopsBy stop) t text tells left = (left, inl cc)
 
-    silent_since : (holds : S → Bool) (a b : S) (u : Session) → IsOn u → shows a b [] [] → holds a ≡ false
+    silent_since : (holds : S → Bool) (a b : S) (u : Session) → IsOn u → shows a b [] → holds a ≡ false
         → holds b ≡ true → AtLast shows holds a b u u []
     silent_since holds a b u on gets before after =
         let none : moved u (Gets (Typed [])) ≡ record { entries = []; to = u } = rw (on.runs, on.free) refl in
-        let gets_none : shows a b (shown (moved u (Gets (Typed []))).entries)
-        (scripted (moved u (Gets (Typed []))).entries) =
-        subst (λ (p : Passed). shows a b (shown p.entries) (scripted p.entries)) (sym none) gets in
+        let gets_none : shows a b (signals (moved u (Gets (Typed []))).entries) =
+        subst (λ (p : Passed). shows a b (signals p.entries)) (sym none) gets in
         subst (λ (p : Passed). AtLast shows holds a b u p.to p.entries) none
         (since holds a b u (Gets (Typed [])) gets_none before after)
 
@@ -250,7 +248,7 @@ module _ {S : Type 0} (shows : S → S → List ℕ → List ℕ → Type 0) (no
         let is = goes_is s half on room in
         let says = subst (λ (p : Passed). Says p.entries text) (sym is) (says_step u v t text) in
         let got = says_got a b (moved u Goes).entries text says
-        (subst (λ (x : Texts). shows a b x.screen x.script) (due_left s.state.game half s.state refl) made.shown) in
+        (subst (λ (x : Signals). shows a b x) (due_left s.state.game half s.state refl) made.shown) in
         record {
           log = (moved u Goes).entries;
           to = (moved u Goes).to;
@@ -307,9 +305,9 @@ module _ {S : Type 0} (shows : S → S → List ℕ → List ℕ → Type 0) (no
 
   pub silent_due : (a : S) (s : Session) (i : Instr) (half : Option Half) (codes : List ℕ) (draft : Windows)
       → IfSome half (StandsHalf s codes draft) → instr_at s.state.game.memory s.state.pc ≡ Ok i → KeepsState i
-      → GotDue shows a a s.state.game half no_text
+      → GotDue shows a a s.state.game half no_signals
   silent_due a s i half codes draft stands fetched keeps =
-      subst (λ (h : Option Half). GotDue shows a a s.state.game h no_text)
+      subst (λ (h : Option Half). GotDue shows a a s.state.game h no_signals)
       (sym (nothing_left s i half codes draft stands fetched keeps)) (nothing a)
 
   pub short_on : (s new : Session) (half : Option Half) (codes : List ℕ) (draft : Windows)
@@ -530,7 +528,7 @@ module _ {S : Type 0} (shows : S → S → List ℕ → List ℕ → Type 0) (no
         }
     ran_bound bound i a b old s (Err h) x works at few =
         let is = move_is zero s x.on.runs x.on.free x.on.silent (omega (arith, few.1)) in
-        let says = subst (λ (p : Passed). Says p.entries no_text) (sym is) (says_stop (stops.Limit s.state.pc Steps)) in
+        let says = subst (λ (p : Passed). Says p.entries no_signals) (sym is) (says_stop (stops.Limit s.state.pc Steps)) in
         let stopped : (moved s Goes).to.stopped ≡ Some (stops.Limit s.state.pc Steps) =
         ap (λ (p : Passed). p.to.stopped) is in
         let both = with_both i 0 i old s (moved s Goes).to x.log (moved s Goes).entries (omega arith) x.on.runs
@@ -543,7 +541,7 @@ module _ {S : Type 0} (shows : S → S → List ℕ → List ℕ → Type 0) (no
           alone = answers_both x.log (moved s Goes).entries x.alone says.alone;
           got =
               got_twice a b b x.log (moved s Goes).entries x.got
-              (says_got b b (moved s Goes).entries no_text says (nothing b));
+              (says_got b b (moved s Goes).entries no_signals says (nothing b));
           noted = inl tt;
           ends = rw (few.0) (x.on.free, inl stopped);
           at_once = never a b old (moved s Goes).to (x.log ++ (moved s Goes).entries) works;

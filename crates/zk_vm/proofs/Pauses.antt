@@ -26,7 +26,7 @@ use Rattle.zk_step.specs.Halves.{IsHalf, IsOnWay, ShowsSome, rest_text, rest_tex
 use Rattle.zk_step.specs.Instructions.{HasBegun, carried_out}
 use Rattle.zk_step.specs.Limited.{kept, limited_move, limited_next, text_in}
 use Rattle.zk_step.specs.Printing.{IsPlainEnd, characters_of, units_of}
-use Rattle.zk_step.specs.Routing.{Texts, no_text, ends_line, routed, routed_by, routed_to, shown_if, stored_all}
+use Rattle.zk_step.specs.Routing.{Signals, no_signals, ends_line, routed, routed_by, routed_to, shown_if, stored_all}
 use Rattle.zk_step.specs.Routing.{streamed, table_filled}
 use Rattle.zk_step.specs.Streams.{newest_of}
 use Rattle.zk_step.proofs.Ends.{ends_as}
@@ -52,36 +52,36 @@ use Rattle.zk_vm.proofs.Keeping.{seen}
 
 -- it has found its way, and then it was finished
 record Made (found taken : GameState) (i : Instr) (vs : List ℕ) (o : Output) (e : Ending) (w : GameState)
-    (n : Next) (t : Texts) : Type 0 where
+    (n : Next) (t : Signals) : Type 0 where
   mid : GameState
   route : routed found.memory taken o ≡ Ok (mid, t)
   end : finished mid i vs e ≡ Ok (w, n)
 
 finished_by : (found taken mid : GameState) (i : Instr) (vs : List ℕ) (o : Output) (e : Ending) (w : GameState)
-    (n : Next) (s t : Texts) (r : Result (GameState × Next) Fault) → routed found.memory taken o ≡ Ok (mid, s)
+    (n : Next) (s t : Signals) (r : Result (GameState × Next) Fault) → routed found.memory taken o ≡ Ok (mid, s)
     → finished mid i vs e ≡ r
-    → (r >>= λ x. let y : GameState × (Next × Texts) = (x.0, (x.1, s)) in Ok y) ≡ Ok (w, (n, t))
+    → (r >>= λ x. let y : GameState × (Next × Signals) = (x.0, (x.1, s)) in Ok y) ≡ Ok (w, (n, t))
     → Made found taken i vs o e w n t
 finished_by found taken mid i vs o e w n s t (Ok x) route end h =
-    let same : ◌≡◌ {A = GameState × (Next × Texts)} (x.0, (x.1, s)) (w, (n, t)) = cc in
-    let text : s ≡ t = ap (λ (y : GameState × (Next × Texts)). y.1.1) same in
+    let same : ◌≡◌ {A = GameState × (Next × Signals)} (x.0, (x.1, s)) (w, (n, t)) = cc in
+    let text : s ≡ t = ap (λ (y : GameState × (Next × Signals)). y.1.1) same in
     record {
       mid = mid;
-      route = route ∙ ap (λ (y : Texts). let z : GameState × Texts = (mid, y) in Ok z) text;
-      end = end ∙ ap (λ (y : GameState × (Next × Texts)). let z : GameState × Next = (y.0, y.1.0) in Ok z) same;
+      route = route ∙ ap (λ (y : Signals). let z : GameState × Signals = (mid, y) in Ok z) text;
+      end = end ∙ ap (λ (y : GameState × (Next × Signals)). let z : GameState × Next = (y.0, y.1.0) in Ok z) same;
     }
 finished_by found taken mid i vs o e w n s t (Err f) route end h = absurd cc
 
 routed_so : (found taken : GameState) (i : Instr) (vs : List ℕ) (o : Output) (e : Ending) (w : GameState)
-    (n : Next) (t : Texts) (r : Result (GameState × Texts) Fault) → routed found.memory taken o ≡ r
-    → (r >>= λ x. finished x.0 i vs e >>= λ y. let z : GameState × (Next × Texts) = (y.0, (y.1, x.1)) in Ok z)
+    (n : Next) (t : Signals) (r : Result (GameState × Signals) Fault) → routed found.memory taken o ≡ r
+    → (r >>= λ x. finished x.0 i vs e >>= λ y. let z : GameState × (Next × Signals) = (y.0, (y.1, x.1)) in Ok z)
     ≡ Ok (w, (n, t)) → Made found taken i vs o e w n t
 routed_so found taken i vs o e w n t (Ok (mid, s)) route h =
     finished_by found taken mid i vs o e w n s t (finished mid i vs e) route refl h
 routed_so found taken i vs o e w n t (Err f) route h = absurd cc
 
 made_of : (found : GameState) (i : Instr) (codes : List ℕ) (draft : Windows) (h : Half)
-    (half : IsHalf found i codes draft h) (w : GameState) (n : Next) (t : Texts)
+    (half : IsHalf found i codes draft h) (w : GameState) (n : Next) (t : Signals)
     → carried_out found i ≡ Ok (w, (n, t)) → Made found half.taken i half.values h.effect.output h.effect.ending w n t
 unfolding carried_out
 made_of found i codes draft h half w n t k =
@@ -90,7 +90,7 @@ made_of found i codes draft h half w n t k =
 
 -- it asks nothing of the machine
 pub half_never_asks : (found : GameState) (i : Instr) (codes : List ℕ) (draft : Windows) (h : Half)
-    → IsHalf found i codes draft h → (w : GameState) (x : Request) (t : Texts)
+    → IsHalf found i codes draft h → (w : GameState) (x : Request) (t : Signals)
     → carried_out found i ≡ Ok (w, (Asks x, t)) → ⊥
 half_never_asks found i codes draft h half w x t k =
     let made = made_of found i codes draft h half w (Asks x) t k in
@@ -99,17 +99,17 @@ half_never_asks found i codes draft h half w x t k =
 
 -- ---- its text
 
-filled_silent : (r : Result GameState Fault) (mid : GameState) (t : Texts)
-    → (r >>= λ v. let x : GameState × Texts = (v, no_text) in Ok x) ≡ Ok (mid, t) → t ≡ no_text
+filled_silent : (r : Result GameState Fault) (mid : GameState) (t : Signals)
+    → (r >>= λ v. let x : GameState × Signals = (v, no_signals) in Ok x) ≡ Ok (mid, t) → t ≡ no_signals
 filled_silent (Ok v) mid t h =
-    let same : ◌≡◌ {A = GameState × Texts} (v, no_text) (mid, t) = cc in
-    sym (ap (λ (x : GameState × Texts). x.1) same)
+    let same : ◌≡◌ {A = GameState × Signals} (v, no_signals) (mid, t) = cc in
+    sym (ap (λ (x : GameState × Signals). x.1) same)
 filled_silent (Err f) mid t h = absurd cc
 
-ok_is : (x y : GameState × Texts) → ◌≡◌ {A = Result (GameState × Texts) Fault} (Ok x) (Ok y) → x ≡ y
+ok_is : (x y : GameState × Signals) → ◌≡◌ {A = Result (GameState × Signals) Fault} (Ok x) (Ok y) → x ≡ y
 ok_is x y h = cc
 
-lower_route : (w : GameState) (o : Output) (r : GameState × Texts) → newest_of w.streams.tables ≡ None
+lower_route : (w : GameState) (o : Output) (r : GameState × Signals) → newest_of w.streams.tables ≡ None
     → w.windows.selected ≡ Lower → routed_by (newest_of w.streams.tables) w.memory w o ≡ Ok r
     → streamed w.memory w (characters_of w.memory o) ≡ r
 lower_route w o r newest is route =
@@ -118,10 +118,10 @@ lower_route w o r newest is route =
 
 -- where it is shown on the screen, nothing refuses the instruction any more
 sure_by : (found taken mid : GameState) (i : Instr) (vs codes : List ℕ) (draft : Windows) (h : Half)
-    (x : Option OpenTable) (window : Window) (t : Texts) → newest_of taken.streams.tables ≡ x
+    (x : Option OpenTable) (window : Window) (t : Signals) → newest_of taken.streams.tables ≡ x
     → taken.windows.selected ≡ window → IsOnWay x window taken i vs codes draft h
     → routed_by (newest_of taken.streams.tables) taken.memory taken h.effect.output ≡ Ok (mid, t)
-    → (t ≡ no_text) ⊎ IsOk (limited_next (finished mid i vs h.effect.ending))
+    → (t ≡ no_signals) ⊎ IsOk (limited_next (finished mid i vs h.effect.ending))
 sure_by found taken mid i vs codes draft h (Some x) window t newest is way route =
     inl (filled_silent (table_filled taken x (stored_all (own_characters taken.memory)
     (units_of taken.memory h.effect.output))) mid t (rw newest at route))
@@ -132,10 +132,10 @@ sure_by found taken mid i vs codes draft h None Lower t newest is way route =
     (characters_of taken.memory h.effect.output)) in
     let there = lower_route taken h.effect.output (mid, t) newest is route in
     inr (subst (λ (w : GameState). IsOk (limited_next (finished w i vs h.effect.ending)))
-    (ap (λ (p : GameState × Texts). p.0) there) (way.1 b))
+    (ap (λ (p : GameState × Signals). p.0) there) (way.1 b))
 
-limited_at : (q : Result FrameList Refusal) (w : GameState) (p : ℕ) (t : Texts)
-    → text_within q t ≡ text_in (kept {B = GameState × (Next × Texts)} q (w, (At p, t)))
+limited_at : (q : Result FrameList Refusal) (w : GameState) (p : ℕ) (t : Signals)
+    → text_within q t ≡ text_in (kept {B = GameState × (Next × Signals)} q (w, (At p, t)))
 limited_at (Ok u) w p t = refl
 limited_at (Err e) w p t = refl
 
@@ -149,13 +149,13 @@ pub record ShowsHalf (s : State) (i : Instr) : Type 0 where
   pub text : text_of s (step s) ≡ text_in (limited_move (carried_out s.game i))
   pub goes : (is_silent (text_shown (step s)) ≡ true) ⊎ (verdict_of s (step s) ≡ GoesOn)
 
-goes_or_silent : (t : Texts) (q : Result FrameList Refusal) (x : GameState × Next) (pc : ℕ)
-    → (t ≡ no_text) ⊎ IsOk (kept {B = GameState × Next} q x) → (is_silent t ≡ true) ⊎ (verdict_within pc q ≡ GoesOn)
+goes_or_silent : (t : Signals) (q : Result FrameList Refusal) (x : GameState × Next) (pc : ℕ)
+    → (t ≡ no_signals) ⊎ IsOk (kept {B = GameState × Next} q x) → (is_silent t ≡ true) ⊎ (verdict_within pc q ≡ GoesOn)
 goes_or_silent t q x pc (inl h) = inl (ap is_silent h)
 goes_or_silent t q x pc (inr h) = inr (within_so q x pc h)
 
 shows_by : (s : State) (i : Instr) (codes : List ℕ) (draft : Windows) (h : Half) → IsHalf s.game i codes draft h
-    → step s ≡ settled s i (carried_out s.game i) → (r : Result (GameState × (Next × Texts)) Fault)
+    → step s ≡ settled s i (carried_out s.game i) → (r : Result (GameState × (Next × Signals)) Fault)
     → carried_out s.game i ≡ r → ShowsHalf s i
 shows_by s i codes draft h half is (Err f) e =
     let step_is : step s ≡ Faults f = is ∙ ap (settled s i) e in
@@ -182,7 +182,7 @@ shows_half s i codes draft h fetched half =
 -- ---- its end
 
 never_refused : (found taken : GameState) (i : Instr) (vs : List ℕ) (h : Half) (e : Refusal) (mid : GameState)
-    (t : Texts) (q : Result (GameState × Next) Refusal) → HasBegun found i taken vs h.effect
+    (t : Signals) (q : Result (GameState × Next) Refusal) → HasBegun found i taken vs h.effect
     → routed found.memory taken h.effect.output ≡ Ok (mid, t)
     → limited_next (finished mid i vs h.effect.ending) ≡ q → IsOk q → limited_move (carried_out found i) ≡ Err e → ⊥
 never_refused found taken i vs h e mid t (Ok (w, n)) begun route end ok err =
@@ -196,7 +196,7 @@ sure_not : (found taken : GameState) (i : Instr) (vs codes : List ℕ) (draft : 
     → HasBegun found i taken vs h.effect → routed found.memory taken h.effect.output ≡ routed_by
     (newest_of taken.streams.tables) taken.memory taken h.effect.output
     → limited_move (carried_out found i) ≡ Err e → rest_text_by x window taken
-    (rest_units taken.memory h.rest) ≡ no_text
+    (rest_units taken.memory h.rest) ≡ no_signals
 sure_not found taken i vs codes draft h e (Some x) window newest is way begun route err = refl
 sure_not found taken i vs codes draft h e None Upper newest is way begun route err = refl
 sure_not found taken i vs codes draft h e None Lower newest is way begun route err =
@@ -209,7 +209,7 @@ sure_not found taken i vs codes draft h e None Lower newest is way begun route e
     (shown_if taken.streams.screen (characters_of taken.memory h.effect.output)))) err)
 
 pub refused_rest : (found : GameState) (i : Instr) (codes : List ℕ) (draft : Windows) (h : Half) (e : Refusal)
-    → IsHalf found i codes draft h → limited_move (carried_out found i) ≡ Err e → rest_text found h.rest ≡ no_text
+    → IsHalf found i codes draft h → limited_move (carried_out found i) ≡ Err e → rest_text found h.rest ≡ no_signals
 refused_rest found i codes draft h e half err =
     let taken = half.taken in
     sym (same_rest i.operands found taken half.values h.rest half.operands)
@@ -221,38 +221,36 @@ all_taken : (n : ℕ) (l : List ℕ) → drop n l ≡ [] → take n l ≡ l
 all_taken n l none = sym (append-nil (take n l)) ∙ ap (λ (x : List ℕ). take n l ++ x) (sym none) ∙ take-append-drop n l
 
 -- a text of which nothing is still to come was shown
-pub whole_shown : {S : Type 0} (shows : S → S → List ℕ → List ℕ → Type 0) (a b : S) (t : Texts)
-    → ShowsSome shows a b t no_text → shows a b t.screen t.script
+pub whole_shown : {S : Type 0} (shows : S → S → Signals → Type 0) (a b : S) (t : Signals)
+    → ShowsSome shows a b t no_signals → shows a b t
 whole_shown {S} shows a b t h =
-    let screen = all_taken h.count t.screen (sym (ap (λ (x : Texts). x.screen) h.is)) in
-    let script = all_taken h.count t.script (sym (ap (λ (x : Texts). x.script) h.is)) in
+    let screen = all_taken h.count t.screen (sym (ap (λ (x : Signals). x.screen) h.is)) in
+    let script = all_taken h.count t.script (sym (ap (λ (x : Signals). x.script) h.is)) in
     rw (screen, script) at h.shown
 
 -- ---- the ways of a step
 
-pub made_at : {S : Type 0} (shows : S → S → List ℕ → List ℕ → Type 0) (a b : S) (m : Inside) (i : Instr)
-    (half : Option Half) (w : GameState) (p : ℕ) (t : Texts) → instr_at m.game.memory m.pc ≡ Ok i
+pub made_at : {S : Type 0} (shows : S → S → Signals → Type 0) (a b : S) (m : Inside) (i : Instr)
+    (half : Option Half) (w : GameState) (p : ℕ) (t : Signals) → instr_at m.game.memory m.pc ≡ Ok i
     → limited_move (carried_out m.game i) ≡ Ok (w, (At p, t)) → t ≡ text_in (limited_move (carried_out m.game i))
-    → ShowsSome shows a b (text_due m.game i half) no_text
+    → ShowsSome shows a b (text_due m.game i half) no_signals
     → IsStep (seen m) (seen (record m { game = w; pc = p; steps = m.steps + 1 })) (Ok tt)
     (GotDue shows a b m.game half)
 made_at {S} shows a b m i None w p t h told is text =
     stepped_on shows a b m i w p t h told (rw is (whole_shown shows a b (text_due m.game i None) text))
 made_at {S} shows a b m i (Some x) w p t h told is text =
-    stepped_on (λ (y z : S) (cs ds : List ℕ). shows a b (rest_text m.game x.rest).screen
-    (rest_text m.game x.rest).script) a b m i w p t h told (whole_shown shows a b (rest_text m.game x.rest) text)
+    stepped_on (λ (y z : S) (cs ds : List ℕ). shows a b (rest_text m.game x.rest)) a b m i w p t h told (whole_shown shows a b (rest_text m.game x.rest) text)
 
-pub made_asked : {S : Type 0} (shows : S → S → List ℕ → List ℕ → Type 0) (twice : (a b c : S) (s t u v : List ℕ)
-    → shows a b s u → shows b c t v → shows a c (s ++ t) (u ++ v)) (a b c : S) (m : Inside) (new : Session)
-    (i : Instr) (half : Option Half) (codes : List ℕ) (draft : Windows) (w : GameState) (x : Request) (t : Texts)
+pub made_asked : {S : Type 0} (shows : S → S → Signals → Type 0) (twice : (a b c : S) (s t : Signals)
+    → shows a b s → shows b c t → shows a c (s ++ t)) (a b c : S) (m : Inside) (new : Session)
+    (i : Instr) (half : Option Half) (codes : List ℕ) (draft : Windows) (w : GameState) (x : Request) (t : Signals)
     (answer : Result (Unit {0}) Halt)
     → IfSome half (IsHalf m.game i codes draft) → instr_at m.game.memory m.pc ≡ Ok i
     → limited_move (carried_out m.game i) ≡ Ok (w, (Asks x, t))
-    → t ≡ text_in (limited_move (carried_out m.game i)) → t ≡ no_text
-    → ShowsSome shows a b (text_due m.game i half) no_text
+    → t ≡ text_in (limited_move (carried_out m.game i)) → t ≡ no_signals
+    → ShowsSome shows a b (text_due m.game i half) no_signals
     → Settles (seen (record m { game = w })) new answer (asked (state_seen (record m { game = w })) i w x)
-    → shows b c (text_of (state_seen m) (asked (state_seen (record m { game = w })) i w x)).screen
-    (text_of (state_seen m) (asked (state_seen (record m { game = w })) i w x)).script
+    → shows b c (text_of (state_seen m) (asked (state_seen (record m { game = w })) i w x))
     → IsStep (seen m) new answer (GotDue shows a c m.game half)
 made_asked {S} shows twice a b c m new i None codes draft w x t answer half h told is quiet text step rest =
     stepped_asked shows twice a b c m new i w x t answer h told quiet
@@ -260,16 +258,15 @@ made_asked {S} shows twice a b c m new i None codes draft w x t answer half h to
 made_asked {S} shows twice a b c m new i (Some y) codes draft w x t answer half h told is quiet text step rest =
     absurd (half_never_asks m.game i codes draft y half w x t (move_is (carried_out m.game i) (w, (Asks x, t)) told))
 
-pub made_err : {S : Type 0} (shows : S → S → List ℕ → List ℕ → Type 0) (a b : S) (m : Inside) (new : Session)
+pub made_err : {S : Type 0} (shows : S → S → Signals → Type 0) (a b : S) (m : Inside) (new : Session)
     (i : Instr) (half : Option Half) (codes : List ℕ) (draft : Windows) (e : Refusal)
     (answer : Result (Unit {0}) Halt) → IfSome half (IsHalf m.game i codes draft) → instr_at m.game.memory m.pc ≡ Ok i
     → limited_move (carried_out m.game i) ≡ Err e → answer ≡ Err (Err (stop_by m.pc e)) → new.waiting ≡ None
-    → shows a b [] [] → IsStep (seen m) new answer (GotDue shows a b m.game half)
+    → shows a b [] → IsStep (seen m) new answer (GotDue shows a b m.game half)
 made_err {S} shows a b m new i None codes draft e answer half h told tells free text =
     stepped_err shows a b m new i e answer h told tells free (rw told text)
 made_err {S} shows a b m new i (Some y) codes draft e answer half h told tells free text =
-    stepped_err (λ (u v : S) (cs ds : List ℕ). shows a b (rest_text m.game y.rest).screen
-    (rest_text m.game y.rest).script) a b m new i e answer h told tells free
+    stepped_err (λ (u v : S) (cs ds : List ℕ). shows a b (rest_text m.game y.rest)) a b m new i e answer h told tells free
     (rw (refused_rest m.game i codes draft y e half told) text)
 
 -- ---- the instruction at the program counter
@@ -285,10 +282,10 @@ half_there s i (Some h) codes draft fetched stands =
     subst (λ (j : Instr). IsHalf s.state.game j codes draft h)
     (same_instr (instr_at s.state.game.memory s.state.pc) stands.instruction i stands.fetched fetched) stands.half
 
-pub made_fault : {S : Type 0} (shows : S → S → List ℕ → List ℕ → Type 0) (a : S) (m : Inside) (new : Session)
+pub made_fault : {S : Type 0} (shows : S → S → Signals → Type 0) (a : S) (m : Inside) (new : Session)
     (half : Option Half) (codes : List ℕ) (draft : Windows) (f : Fault) (answer : Result (Unit {0}) Halt)
     → IfSome half (StandsHalf (seen m) codes draft) → instr_at m.game.memory m.pc ≡ Err f
-    → answer ≡ Err (Err (stop.Fault m.pc f)) → new.waiting ≡ None → shows a a [] []
+    → answer ≡ Err (Err (stop.Fault m.pc f)) → new.waiting ≡ None → shows a a []
     → IsStep (seen m) new answer (GotDue shows a a m.game half)
 made_fault {S} shows a m new None codes draft f answer stands fault tells free none =
     stepped_fault shows a m new f answer fault tells free none

@@ -2,7 +2,7 @@
 use Rattle.std.proofs.Common.{◌≡◌, ◌∙◌, Bool, true, false, [], sym, append-nil}
 use Rattle.zk_term.specs.Devices.{Sends, Shows}
 use Rattle.zk_term.proofs.Sending.{sends_shows}
-use Rattle.zk_step.specs.Routing.{Texts}
+use Rattle.zk_step.specs.Routing.{Signals}
 use Rattle.zk_term.specs.BufferedScreens.{Targets, Written, written_twice, screen_sender, script_sender}
 
 -- targets that nothing waits for, and that no write has failed on
@@ -18,15 +18,15 @@ pub record IsFinished (a : Targets) : Type 0 where
   pub script : a.failed ≡ false → a.to_script ≡ []
 
 -- what the two targets got
-abbrev pub BothShow : Targets → Targets → Bool → Texts → Type 0
+abbrev pub BothShow : Targets → Targets → Bool → Signals → Type 0
 BothShow a c failed t =
     Shows (record { taken = a.screen; failed = false }) (record { taken = c.screen; failed = failed }) t.screen
     × Shows (record { taken = a.script; failed = false }) (record { taken = c.script; failed = failed }) t.script
 
-pub both_show : (a b c : Targets) (t : Texts) → IsFresh a → IsFinished c → Written a b t.screen t.script
+pub both_show : (a b c : Targets) (t : Signals) → IsFresh a → IsFinished c → Written a b t
     → Written b c [] [] → BothShow a c c.failed t
 both_show a b c t fresh done first rest =
-    let all : Written a c t.screen t.script = rw (append-nil t.screen, append-nil t.script) at
+    let all : Written a c t = rw (append-nil t.screen, append-nil t.script) at
     (written_twice a b c t.screen [] t.script [] first rest) in (
       rw fresh.failed at (sends_shows (screen_sender a) (screen_sender c) t.screen fresh.screen done.screen
           all.screen_sent),
@@ -34,7 +34,7 @@ both_show a b c t fresh done first rest =
           all.script_sent),
     )
 
-pub known_failed : (a b c : Targets) (t : Texts) → IsFresh a → Written a b t.screen t.script → Written b c [] []
+pub known_failed : (a b c : Targets) (t : Signals) → IsFresh a → Written a b t → Written b c [] []
     → c.failed ≡ c.either
 known_failed a b c t fresh first rest = rest.known (first.known (fresh.failed ∙ sym fresh.either))
 

@@ -34,7 +34,7 @@ use Rattle.zk_step.specs.Instructions.{carried_out}
 use Rattle.zk_step.specs.Laws.{AsksBy, EndsBy, GoesInto, IsOneStory, KeepsStory, ReturnInto, fixed_parts}
 use Rattle.zk_step.specs.Restarts.{windows_closed}
 use Rattle.zk_step.specs.Resuming.{resumed}
-use Rattle.zk_step.specs.Routing.{Texts, no_text}
+use Rattle.zk_step.specs.Routing.{Signals, no_signals}
 use Rattle.zk_step.specs.Variables.{operands_read}
 use Rattle.zk_step.proofs.FixedParts.{Leaves, gives, leaves_after, back_keeps, value_left}
 use Rattle.zk_step.proofs.SameStory.{same_base, same_file, same_version}
@@ -63,7 +63,7 @@ pub record IsShownIn (w v : GameState) : Type 0 where
   pub memory : v.memory ≡ w.memory
   pub frames : v.frames ≡ w.frames
 
-abbrev ShownBeside : GameState → GameState × Texts → Type 0
+abbrev ShownBeside : GameState → GameState × Signals → Type 0
 ShownBeside w r = IsShownIn w r.0
 
 shown_none : (w : GameState) → IsShownIn w w
@@ -84,7 +84,7 @@ shown_before : (event : Event) (w : GameState) → Leaves (ShownBeside w) (view_
 unfolding viewed
 shown_before event w = go (is_read event)
   where
-    go : (b : Bool) → Leaves (ShownBeside w) (if b then viewed_by w.view w else Ok (w, no_text))
+    go : (b : Bool) → Leaves (ShownBeside w) (if b then viewed_by w.view w else Ok (w, no_signals))
     go true = shown_view w.view w
     go false = gives (shown_none w)
 
@@ -177,7 +177,7 @@ module _ (m : MemoryMap) (P : ℕ → Type 0) where
       step_all StepsInto _ (view_before x w)
       (λ v e. (shown v (value_left (view_before x w) v (shown_before x w) e), on)) (λ f e. tt)
     where
-      shown : (v : GameState × Texts) → ShownBeside w v → Inside (record s { game = v.0 })
+      shown : (v : GameState × Signals) → ShownBeside w v → Inside (record s { game = v.0 })
       shown v same =
           let stays : StaysInside P s.game v.0 = record {
             inside = record {
@@ -260,7 +260,7 @@ module _ (m : MemoryMap) (P : ℕ → Type 0) where
       back_to_inside s i w s.undo h k (knows.on (by_opcode i.opcode (opcode.Saving RestoreUndo) refl by)) h.undo
   asked_inside s i w request.Quit h knows k by = tt
 
-  led_inside : (s : State) (i : Instr) (w : GameState) (n : Next) (text : Texts) → Inside s → Knows s i
+  led_inside : (s : State) (i : Instr) (w : GameState) (n : Next) (text : Signals) → Inside s → Knows s i
       → carried_out s.game i ≡ Ok (w, (n, text)) → StaysInside P s.game w → GoesInto P n
       → StepsInto (led_to s i w text n)
   led_inside s i w (next.At pc) text h knows e k into =

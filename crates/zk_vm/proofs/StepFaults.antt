@@ -21,7 +21,7 @@ use Rattle.zk_step.specs.declared.state.game_state.GameState.{GameState}
 use Rattle.zk_step.specs.Instructions.{carried_out}
 use Rattle.zk_step.specs.Laws.{is_of_reading}
 use Rattle.zk_step.specs.Restarts.{windows_closed}
-use Rattle.zk_step.specs.Routing.{Texts}
+use Rattle.zk_step.specs.Routing.{Signals}
 use Rattle.zk_step.specs.Status.{status_units}
 use Rattle.zk_step.proofs.Later.{Later, later_then, later_if, status_units_later}
 use Rattle.zk_step.proofs.Sweep.{carried_out_later, character_answered_later, line_answered_later}
@@ -62,7 +62,7 @@ back_later s i w None = by_later _ _ (result_answered_later w i 0 false) (λ x. 
 back_later s i w (Some (m, f, pc, others)) =
     by_later _ _ (resumed_later (record w { memory = m; frames = f }) pc) (λ x. tt)
 
-led_later : (s : State) (i : Instr) (w : GameState) (text : Texts) (n : Next) → IsLater (led_to s i w text n)
+led_later : (s : State) (i : Instr) (w : GameState) (text : Signals) (n : Next) → IsLater (led_to s i w text n)
 led_later s i w text (At pc) = tt
 led_later s i w text (Asks (Answer event)) = by_later _ _ (before_later event w) (λ x. tt)
 led_later s i w text (Asks SaveUndo) =
@@ -70,7 +70,7 @@ led_later s i w text (Asks SaveUndo) =
 led_later s i w text (Asks RestoreUndo) = back_later s i w (gone_back s.undo w.memory w.frames)
 led_later s i w text (Asks Quit) = tt
 
-settled_later : (s : State) (i : Instr) (r : Result (GameState × (Next × Texts)) Fault) → Later r
+settled_later : (s : State) (i : Instr) (r : Result (GameState × (Next × Signals)) Fault) → Later r
     → IsLater (settled s i r)
 settled_later s i r h = by_later _ r h (λ x. led_later s i x.0 x.1.1 x.1.0)
 

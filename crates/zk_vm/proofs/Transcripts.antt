@@ -17,8 +17,8 @@ use Rattle.zk_step.specs.Status.{code_units}
 use Rattle.zk_step.specs.TextBuffers.{early_kept, later_kept, is_filled, kept_of}
 
 -- one more character
-pub next_shown : {S : Type 0} (shows : S → S → List ℕ → List ℕ → Type 0) (twice : (a b c : S) (s t u v : List ℕ)
-    → shows a b s u → shows b c t v → shows a c (s ++ t) (u ++ v))
+pub next_shown : {S : Type 0} (shows : S → S → Signals → Type 0) (twice : (a b c : S) (s t : Signals)
+    → shows a b s → shows b c t → shows a c (s ++ t))
     (old now new : S) (cs : List ℕ) (i c : ℕ) → i < length cs → c ≡ get_or cs i c → shows old now [] (take i cs)
     → shows now new [] (c ∷ []) → shows old new [] (take (i + 1) cs)
 next_shown {S} shows twice old now new cs i c lt is h one =

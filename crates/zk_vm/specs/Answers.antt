@@ -17,7 +17,7 @@ use Rattle.zk_save.specs.States.{WholeState, gone_back}
 use Rattle.zk_step.specs.Inputs.{line_answered, character_answered, result_answered}
 use Rattle.zk_step.specs.Restarts.{windows_closed}
 use Rattle.zk_step.specs.Resuming.{resumed}
-use Rattle.zk_step.specs.Routing.{no_text, script_is_on}
+use Rattle.zk_step.specs.Routing.{no_signals, script_is_on}
 use Rattle.zk_step.specs.Status.{code_units}
 use Rattle.zk_step.specs.Streams.{newest_of}
 use Rattle.zk_step.specs.TextBuffers.{kept_of}
@@ -76,7 +76,7 @@ transcribed w _ codes = []
 abbrev pub answer_settled : State → List ℕ → Result (GameState × ℕ) Fault → Step
 answer_settled s due =
     step_by (λ found. Goes (record s { game = found.0; pc = found.1; steps = 0; reads = s.reads + 1; due = due })
-    no_text)
+    no_signals)
 
 -- ---- saved games
 

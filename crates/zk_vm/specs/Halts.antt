@@ -8,7 +8,7 @@ use Rattle.zk_code.specs.Reading.{instr_at}
 use Rattle.zk_step.specs.declared.state.ending.Event.{Event}
 use Rattle.zk_step.specs.declared.state.ending.Event.TheVariants as event
 use Rattle.zk_step.specs.declared.state.game_state.GameState.{GameState}
-use Rattle.zk_step.specs.Routing.{Texts, no_text}
+use Rattle.zk_step.specs.Routing.{Signals, no_signals}
 use Rattle.zk_step.specs.Variables.{operands_read}
 use Rattle.zk_vm.specs.declared.limits.Limits.{Limits}
 use Rattle.zk_vm.specs.declared.stop.Stop.{Stop}
@@ -90,17 +90,17 @@ pub record IsKeeping (s : State) : Type 0 where
 
 -- a step was made, and its text was shown
 pub record StepsTo (x : Step) (old new : Session) (answer : Result (Unit {0}) Halt)
-    (Shown : Texts → Type 0) : Type 0 where
+    (Shown : Signals → Type 0) : Type 0 where
   pub tells : answer ≡ halt_by (verdict_of old.state x)
   pub left : IsLeftAt old new (verdict_of old.state x) (state_after old.state x)
   pub shown : Shown (text_of old.state x)
 
 -- a step was made as the Standard's machine makes it; or it came to keep a state, for which there was no memory, and
 -- nothing was done
-abbrev pub IsStep : Session → Session → Result (Unit {0}) Halt → (Texts → Type 0) → Type 0
+abbrev pub IsStep : Session → Session → Result (Unit {0}) Halt → (Signals → Type 0) → Type 0
 IsStep old new answer Shown =
     StepsTo (step old.state) old new answer Shown
-    ⊎ ((answer ≡ Err (Err stop.Memory)) × (new ≡ old) × (IsKeeping old.state × Shown no_text))
+    ⊎ ((answer ≡ Err (Err stop.Memory)) × (new ≡ old) × (IsKeeping old.state × Shown no_signals))
 
 -- while a machine has no stop
 abbrev pub WhileRunning : Option Stop → Type 0 → Type 0

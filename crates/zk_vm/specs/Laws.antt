@@ -6,7 +6,7 @@ use Rattle.zk_state.specs.declared.refusal.Refusal.TheVariants as refusal
 use Rattle.zk_state.specs.Frames.{bounds_of, frames_of, total_of, within_bounds}
 use Rattle.zk_step.specs.declared.state.game_state.View.{View}
 use Rattle.zk_step.specs.Laws.{rebounded}
-use Rattle.zk_step.specs.Routing.{Texts}
+use Rattle.zk_step.specs.Routing.{Signals}
 use Rattle.zk_vm.specs.declared.limits.Limits.{Limits}
 use Rattle.zk_vm.specs.declared.stop.Stop.{Stop}
 use Rattle.zk_vm.specs.declared.stop.Stop.TheVariants.{Limit as LimitAt}
@@ -100,7 +100,7 @@ Passes l old (Exceeds limit) = l ≡ limit
 Passes l old _ = ⊥
 
 -- the last that is told of an instruction that stops: its address, or what is left of its text
-abbrev pub last_told : Option Texts → ℕ → List Entry
+abbrev pub last_told : Option Signals → ℕ → List Entry
 last_told None pc = At pc ∷ []
 last_told (Some t) pc = told t
 

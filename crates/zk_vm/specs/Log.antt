@@ -7,7 +7,7 @@ use Rattle.zk_save.specs.declared.restore.RestoreError.{RestoreError}
 use Rattle.zk_step.specs.declared.state.ending.Event.{Event}
 use Rattle.zk_step.specs.declared.state.ending.Event.TheVariants.{Line, Char, Save, Restore}
 use Rattle.zk_step.specs.Halves.{text_first, text_later}
-use Rattle.zk_step.specs.Routing.{Texts, no_text}
+use Rattle.zk_step.specs.Routing.{Signals, no_signals}
 use Rattle.zk_vm.specs.declared.stop.Stop.{Stop}
 use Rattle.zk_vm.specs.declared.stop.Stop.TheVariants.{Limit as LimitAt}
 use Rattle.zk_vm.specs.declared.waiting.Waiting.{Waiting}
@@ -39,7 +39,7 @@ woven (x ∷ xs) [] = x ∷ xs
 woven (x ∷ xs) (y ∷ ys) = x ∷ y ∷ woven xs ys
 
 -- the entries of a text
-abbrev pub told : Texts → List Entry
+abbrev pub told : Signals → List Entry
 told t = woven (map Shown t.screen) (map Scripted t.script)
 
 -- the entry of an answer, by what the machine waits for
@@ -56,24 +56,24 @@ stop_told (Some stop) = Stopped stop ∷ []
 -- ---- parts of a text
 
 -- what is still to come of the text of the next step: all of it, unless a part was shown
-abbrev pub text_left : Option Texts → State → Texts
+abbrev pub text_left : Option Signals → State → Signals
 text_left None s = text_of s (step s)
 text_left (Some t) s = t
 
 -- the text of a step, whatever the limits are
-abbrev pub text_shown : Step → Texts
+abbrev pub text_shown : Step → Signals
 text_shown (GoesTo s text) = text
 text_shown (Waits s waiting text) = text
-text_shown Quits = no_text
-text_shown (Faults f) = no_text
-text_shown (Exceeds l) = no_text
+text_shown Quits = no_signals
+text_shown (Faults f) = no_signals
+text_shown (Exceeds l) = no_signals
 
 -- a text that shows nothing
-abbrev pub is_silent : Texts → Bool
+abbrev pub is_silent : Signals → Bool
 is_silent t = (length t.screen == 0) && (length t.script == 0)
 
 -- an instruction's address is told before the first part of its text
-abbrev pub address_told : Option Texts → ℕ → List Entry
+abbrev pub address_told : Option Signals → ℕ → List Entry
 address_told None pc = At pc ∷ []
 address_told (Some t) pc = []
 
@@ -100,7 +100,7 @@ pub record Passed : Type 0 where
 -- A step was made, at a byte address: the run goes on, waits or stops. It stops by itself, by a fault, or by a limit
 -- that the state after it would pass, on frames, words or reads (`verdict_of`); where it stops so, it shows nothing
 -- (`text_of`).
-abbrev pub stepped_to : Session → Verdict → State → Texts → Passed
+abbrev pub stepped_to : Session → Verdict → State → Signals → Passed
 stepped_to s GoesOn t text =
     record { entries = address_told s.left s.state.pc ++ told text; to = record s { state = t; left = None } }
 stepped_to s (WaitsFor w) t text =
@@ -127,7 +127,7 @@ goes_by [] s = stepped (s.limits.steps - s.state.steps) s
 goes_by (c ∷ cs) s = record { entries = map Scripted (c ∷ cs); to = record s { state = record s.state { due = [] } } }
 
 -- a part of a text is shown, and the rest is left; the state is still that before the step
-abbrev pub part_shown : ℕ → Session → Texts → Passed
+abbrev pub part_shown : ℕ → Session → Signals → Passed
 part_shown n s text =
     record {
       entries = address_told s.left s.state.pc ++ told (text_first n text);
@@ -135,7 +135,7 @@ part_shown n s text =
     }
 
 -- a step that stops has no parts: it is made, unless whatever the limits are nothing would be shown of it
-abbrev pub parted_to : Bool → ℕ → Session → Verdict → State → Texts → Passed
+abbrev pub parted_to : Bool → ℕ → Session → Verdict → State → Signals → Passed
 parted_to true n s v t text = part_shown n s text
 parted_to false n s GoesOn t text = part_shown n s text
 parted_to false n s (WaitsFor w) t text = part_shown n s text

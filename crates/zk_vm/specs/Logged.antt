@@ -46,24 +46,24 @@ WasNoted Noted l to =
 -- ---- a run on a screen: what `run` and `run_for` promise
 
 -- What holds of a screen came to hold at the last move of a log: it did not hold of the screen that got all before.
-pub record AtLast {S : Type 0} (shows : S → S → List ℕ → List ℕ → Type 0) (holds : S → Bool) (a b : S)
+pub record AtLast {S : Type 0} (shows : S → S → Signals → Type 0) (holds : S → Bool) (a b : S)
     (old to : Session) (l : List Entry) : Type 0 where
   pub first : List Entry
   pub mid : Session
   pub before : IsLog old first mid
   pub between : S
-  pub got : shows a between (shown first) (scripted first)
+  pub got : shows a between (signals first)
   pub not : holds between ≡ false
   pub move : Move
   pub whole : l ≡ first ++ (moved mid move).entries
   pub there : to ≡ (moved mid move).to
-  pub gets : shows between b (shown (moved mid move).entries) (scripted (moved mid move).entries)
+  pub gets : shows between b (signals (moved mid move).entries)
   pub now : holds b ≡ true
 
 -- how a run is left that has come to a session: it has paused, once its steps and the parts of texts that it has shown
 -- reach a bound, or since its screen is full; it waits; or it has stopped there; or there is no memory for a state; or
 -- its screen has failed
-abbrev pub RunEnds : {S : Type 0} → (S → S → List ℕ → List ℕ → Type 0) → (S → Bool) → (S → Bool) → S → S → ℕ → ℕ
+abbrev pub RunEnds : {S : Type 0} → (S → S → Signals → Type 0) → (S → Bool) → (S → Bool) → S → S → ℕ → ℕ
     → Session → Session → Session → List Entry → Result (Unit {0}) Halt → Type 0
 RunEnds {S} shows full failed a b bound parts old to new l (Ok u) =
     (new ≡ to) × IsOn to × (failed b ≡ false)
@@ -76,7 +76,7 @@ RunEnds {S} shows full failed a b bound parts old to new l (Err (Err stop)) =
 
 -- A machine was run, and so many parts of texts were shown: its screen got what a log shows, and has failed at its last
 -- move, if it has.
-pub record Ran {S : Type 0} (shows : S → S → List ℕ → List ℕ → Type 0) (full failed : S → Bool)
+pub record Ran {S : Type 0} (shows : S → S → Signals → Type 0) (full failed : S → Bool)
     (Noted : List ℕ → Type 0) (a b : S) (bound parts : ℕ) (old new : Session)
     (answer : Result (Unit {0}) Halt) : Type 0 where
   pub log : List Entry
@@ -84,7 +84,7 @@ pub record Ran {S : Type 0} (shows : S → S → List ℕ → List ℕ → Type 
   pub is : IsLog old log to
   pub counted : parts_of is.moves ≡ parts
   pub alone : answers_in log ≡ []
-  pub got : shows a b (shown log) (scripted log)
+  pub got : shows a b (signals log)
   pub noted : WasNoted Noted log to
   pub ends : RunEnds shows full failed a b bound parts old to new log answer
   pub at_once : failed a ≡ false → failed b ≡ true → AtLast shows failed a b old to log

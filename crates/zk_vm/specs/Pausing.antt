@@ -11,7 +11,7 @@ use Rattle.zk_step.specs.declared.output.parts.Half.{Half}
 use Rattle.zk_step.specs.declared.state.ending.Event.{Event}
 use Rattle.zk_step.specs.declared.state.game_state.GameState.{GameState}
 use Rattle.zk_step.specs.Halves.{IsHalf, ShowsSome, rest_text, text_due}
-use Rattle.zk_step.specs.Routing.{Texts}
+use Rattle.zk_step.specs.Routing.{Signals}
 use Rattle.zk_vm.specs.declared.machine.pausing.PausingMachine.TheInside.{Inside}
 use Rattle.zk_vm.specs.declared.machine.pausing.Reached.{Reached}
 use Rattle.zk_vm.specs.declared.machine.pausing.Reached.TheVariants as reached
@@ -24,7 +24,7 @@ use Rattle.zk_vm.specs.Logged.{IsOn, Ran}
 use Rattle.zk_vm.specs.Sessions.{Session}
 
 -- what is still to come of a text of which a part was shown
-abbrev pub left_of : GameState → Option Half → Option Texts
+abbrev pub left_of : GameState → Option Half → Option Signals
 left_of w None = None
 left_of w (Some h) = Some (rest_text w h.rest)
 
@@ -47,14 +47,14 @@ pub record IsPausing (p : Inside) : Type 0 where
   pub half : IfSome p.half (StandsHalf p.machine p.codes p.draft)
 
 -- a part of an instruction's text was shown: the machine stands as before
-pub record IsCut {S : Type 0} (shows : S → S → List ℕ → List ℕ → Type 0) (a b : S) (old new : Session) (i : Instr)
+pub record IsCut {S : Type 0} (shows : S → S → Signals → Type 0) (a b : S) (old new : Session) (i : Instr)
     (before : Option Half) (codes : List ℕ) (draft : Windows) (h : Half) : Type 0 where
   pub same : new ≡ old
   pub half : IsHalf old.state.game i codes draft h
   pub shown : ShowsSome shows a b (text_due old.state.game i before) (rest_text old.state.game h.rest)
 
 -- so it was of the instruction at the program counter
-pub record IsCutAt {S : Type 0} (shows : S → S → List ℕ → List ℕ → Type 0) (a b : S) (old new : Session)
+pub record IsCutAt {S : Type 0} (shows : S → S → Signals → Type 0) (a b : S) (old new : Session)
     (before : Option Half) (codes : List ℕ) (draft : Windows) (h : Half) : Type 0 where
   pub instruction : Instr
   pub fetched : instr_at old.state.game.memory old.state.pc ≡ Ok instruction
@@ -65,12 +65,12 @@ abbrev pub told_due : Session → Session
 told_due s = record s { state = record s.state { due = [] } }
 
 -- the text of a step, or the rest of it
-abbrev pub due_of : GameState → Option Half → Texts → Texts
+abbrev pub due_of : GameState → Option Half → Signals → Signals
 due_of w None t = t
 due_of w (Some h) t = rest_text w h.rest
 
-abbrev pub GotDue : {S : Type 0} → (S → S → List ℕ → List ℕ → Type 0) → S → S → GameState → Option Half → Texts → Type 0
-GotDue {S} shows a b w half t = shows a b (due_of w half t).screen (due_of w half t).script
+abbrev pub GotDue : {S : Type 0} → (S → S → Signals → Type 0) → S → S → GameState → Option Half → Signals → Type 0
+GotDue {S} shows a b w half t = shows a b (due_of w half t)
 
 -- an instruction may print a long text, or many rows
 abbrev pub prints_text : Opcode → Bool
@@ -84,7 +84,7 @@ prints_text (opcode.Table t) = true
 prints_text _ = false
 
 -- the step was made, and the text that was still to come was shown; or nothing was done, for lack of memory
-abbrev pub IsMade : {S : Type 0} → (S → S → List ℕ → List ℕ → Type 0) → S → S → Session → Session → Option Half
+abbrev pub IsMade : {S : Type 0} → (S → S → Signals → Type 0) → S → S → Session → Session → Option Half
     → Result Stepped Halt → Type 0
 IsMade {S} shows a b old new half (Ok stepped.Part) = Unit {0}
 IsMade {S} shows a b old new half (Ok stepped.Done) = IsStep old new (Ok tt) (GotDue shows a b old.state.game half)
@@ -94,29 +94,29 @@ IsMade {S} shows a b old new half (Err h) = IsStep old new (Err h) (GotDue shows
 -- ---- how a machine goes on
 
 -- a machine went on, and a screen got what passed
-pub record WentOn {S : Type 0} (shows : S → S → List ℕ → List ℕ → Type 0) (parts : ℕ) (a b : S)
+pub record WentOn {S : Type 0} (shows : S → S → Signals → Type 0) (parts : ℕ) (a b : S)
     (s t : Session) : Type 0 where
   pub log : List Entry
   pub is : IsLog s log t
   pub counted : parts_of is.moves ≡ parts
   pub alone : answers_in log ≡ []
-  pub got : shows a b (shown log) (scripted log)
+  pub got : shows a b (signals log)
   pub on : IsOn t
 
 -- it did so by a move
-pub record GoneBy {S : Type 0} (shows : S → S → List ℕ → List ℕ → Type 0) (parts : ℕ) (a b : S)
+pub record GoneBy {S : Type 0} (shows : S → S → Signals → Type 0) (parts : ℕ) (a b : S)
     (s t : Session) : Type 0 where
   pub move : Move
   pub counted : parts_of (move ∷ []) ≡ parts
   pub there : t ≡ (moved s move).to
   pub alone : answers_in (moved s move).entries ≡ []
-  pub got : shows a b (shown (moved s move).entries) (scripted (moved s move).entries)
+  pub got : shows a b (signals (moved s move).entries)
   pub on : IsOn t
 
 -- ---- what a run comes to
 
 -- a machine has gone on to an instruction that keeps a state, for which there is no memory, and stands before it
-pub record StandsShort {S : Type 0} (shows : S → S → List ℕ → List ℕ → Type 0) (failed : S → Bool) (a b : S)
+pub record StandsShort {S : Type 0} (shows : S → S → Signals → Type 0) (failed : S → Bool) (a b : S)
     (bound parts : ℕ) (old new : Session) : Type 0 where
   pub went : WentOn shows parts a b old new
   pub keeping : IsKeeping new.state
@@ -125,7 +125,7 @@ pub record StandsShort {S : Type 0} (shows : S → S → List ℕ → List ℕ �
   pub room : new.state.steps < new.limits.steps
 
 -- a machine has paused, with memory or for lack of it, or it waits or stops
-abbrev pub HasCome : {S : Type 0} → (S → S → List ℕ → List ℕ → Type 0) → (full failed : S → Bool) → (a b : S)
+abbrev pub HasCome : {S : Type 0} → (S → S → Signals → Type 0) → (full failed : S → Bool) → (a b : S)
     → (bound : ℕ) → (old new : Session) → Result Bool Halt → Type 0
 HasCome {S} shows full failed a b bound old new (Ok true) =
     (parts : ℕ) × Ran shows full failed (λ l. Unit {0}) a b bound parts old new (Ok tt)

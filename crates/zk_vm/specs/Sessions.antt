@@ -6,7 +6,7 @@ use Rattle.zk_state.specs.Frames.{first_frames}
 use Rattle.zk_term.specs.Windows.{first_windows, forgotten}
 use Rattle.zk_step.specs.declared.state.game_state.View.{View}
 use Rattle.zk_step.specs.declared.state.game_state.GameState.{GameState}
-use Rattle.zk_step.specs.Routing.{Texts}
+use Rattle.zk_step.specs.Routing.{Signals}
 use Rattle.zk_step.specs.Streams.{first_streams}
 use Rattle.zk_vm.specs.declared.limits.Limits.{Limits}
 use Rattle.zk_vm.specs.declared.stop.Stop.{Stop}
@@ -22,7 +22,7 @@ pub record Session : Type 0 where
   pub limits : Limits
   pub waiting : Option Waiting
   pub stopped : Option Stop
-  pub left : Option Texts
+  pub left : Option Signals
 
 -- the game state that a story begins with, with a seed of its random numbers
 abbrev pub first_game : List ℕ → ℕ → Limits → View → GameState

@@ -24,7 +24,7 @@ use Rattle.zk_save.specs.States.{WholeState, state_of, gone_back}
 use Rattle.zk_step.specs.Inputs.{result_answered}
 use Rattle.zk_step.specs.Instructions.{carried_out}
 use Rattle.zk_step.specs.Resuming.{resumed}
-use Rattle.zk_step.specs.Routing.{Texts, no_text}
+use Rattle.zk_step.specs.Routing.{Signals, no_signals}
 use Rattle.zk_step.specs.View.{viewed}
 
 -- the state of play: the game state, the byte address of the next instruction, how many steps were made since the last
@@ -41,8 +41,8 @@ pub record State : Type 0 where
 -- A step goes on in a state, or waits in one for an answer, and shows some text; or it ends the story, is a fault, or
 -- what it restores has too many frames or words, and it shows none.
 pub data Step : Type 0 where
-  Goes : (state : State) (text : Texts) → Step
-  Waits : (state : State) (waiting : Waiting) (text : Texts) → Step
+  Goes : (state : State) (text : Signals) → Step
+  Waits : (state : State) (waiting : Waiting) (text : Signals) → Step
   Quits : Step
   Faults : (fault : Fault) → Step
   Exceeds : (limit : Limit) → Step
@@ -62,20 +62,20 @@ is_read event.Save = false
 is_read event.Restore = false
 
 -- an instruction that waits has shown what the view shows before a read
-abbrev pub waits_by : State → Instr → Event → Result (GameState × Texts) Fault → Step
+abbrev pub waits_by : State → Instr → Event → Result (GameState × Signals) Fault → Step
 waits_by s i event =
     step_by (λ shown. Waits (record s { game = shown.0 }) (record { wait = event; instruction = i }) shown.1)
 
 -- the view is shown before a read alone
-abbrev pub view_before : Event → GameState → Result (GameState × Texts) Fault
-view_before event w = if is_read event then viewed w else Ok (w, no_text)
+abbrev pub view_before : Event → GameState → Result (GameState × Signals) Fault
+view_before event w = if is_read event then viewed w else Ok (w, no_signals)
 
 -- ---- states to go back to (section 15, `save_undo` and `restore_undo`)
 
 -- where an instruction leads that is finished in silence, with these states to go back to
 abbrev pub goes_to : State → List WholeState → Result (GameState × ℕ) Fault → Step
 goes_to s undo =
-    step_by (λ found. Goes (record s { game = found.0; pc = found.1; steps = s.steps + 1; undo = undo }) no_text)
+    step_by (λ found. Goes (record s { game = found.0; pc = found.1; steps = s.steps + 1; undo = undo }) no_signals)
 
 -- where the run goes on from a state that an instruction saves: its branch in version 3, its store byte from version 4
 -- on (Quetzal 1.4, section 5)
@@ -103,12 +103,12 @@ asked s i w request.RestoreUndo = back_to s i w (gone_back s.undo w.memory w.fra
 asked s i w request.Quit = Quits
 
 -- what an instruction that was carried out leads to
-abbrev pub led_to : State → Instr → GameState → Texts → Next → Step
+abbrev pub led_to : State → Instr → GameState → Signals → Next → Step
 led_to s i w text (next.At pc) = Goes (record s { game = w; pc = pc; steps = s.steps + 1 }) text
 led_to s i w text (next.Asks request) = asked s i w request
 
 -- the step that an instruction makes
-abbrev pub settled : State → Instr → Result (GameState × (Next × Texts)) Fault → Step
+abbrev pub settled : State → Instr → Result (GameState × (Next × Signals)) Fault → Step
 settled s i = step_by (λ done. led_to s i done.0 done.1.1 done.1.0)
 
 -- the step from a state, by the instruction that was fetched
@@ -160,17 +160,17 @@ abbrev pub verdict_of : State → Step → Verdict
 verdict_of old x = verdict_at old.pc old.reads x
 
 -- a text, unless frames or words are too many
-abbrev pub text_within : Result FrameList Refusal → Texts → Texts
+abbrev pub text_within : Result FrameList Refusal → Signals → Signals
 text_within (Ok s) text = text
-text_within (Err e) text = no_text
+text_within (Err e) text = no_signals
 
 -- what a run shows of a step, after so many reads: nothing where it would pass a limit
-abbrev pub text_at : ℕ → Step → Texts
+abbrev pub text_at : ℕ → Step → Signals
 text_at reads (Goes s text) = text_within (within_bounds s.game.frames) text
-text_at reads (Waits s waiting text) = if is_past_reads reads waiting.wait then no_text else text
-text_at reads Quits = no_text
-text_at reads (Faults f) = no_text
-text_at reads (Exceeds l) = no_text
+text_at reads (Waits s waiting text) = if is_past_reads reads waiting.wait then no_signals else text
+text_at reads Quits = no_signals
+text_at reads (Faults f) = no_signals
+text_at reads (Exceeds l) = no_signals
 
-abbrev pub text_of : State → Step → Texts
+abbrev pub text_of : State → Step → Signals
 text_of old x = text_at old.reads x

@@ -23,12 +23,12 @@ use Rattle.zk_code.specs.declared.opcode.Routine.TheVariants.{CheckArgCount}
 use Rattle.zk_code.specs.declared.opcode.Control.TheVariants.{Jump, Quit}
 use Rattle.zk_code.specs.declared.opcode.Printing.TheVariants.{Print, PrintRet, NewLine, PrintNum, PrintChar}
 use Rattle.zk_code.specs.declared.opcode.Printing.TheVariants.{PrintUnicode, PrintAddr, PrintPaddr, PrintObj}
-use Rattle.zk_code.specs.declared.opcode.Idle.TheVariants.{Nop, SetColour, SetTrueColour, SetTextStyle, BufferMode}
-use Rattle.zk_code.specs.declared.opcode.Idle.TheVariants.{SoundEffect, SetFont, Piracy, CheckUnicode}
+use Rattle.zk_code.specs.declared.opcode.Idle.TheVariants.{Nop, SetColour, SetTrueColour, BufferMode, Piracy}
+use Rattle.zk_code.specs.declared.opcode.Idle.TheVariants.{CheckUnicode}
 use Rattle.zk_code.specs.declared.opcode.Reading.TheVariants.{Sread, Aread, ReadChar}
 use Rattle.zk_code.specs.declared.opcode.Words.TheVariants.{Tokenise, EncodeText}
 use Rattle.zk_code.specs.declared.opcode.Window.TheVariants.{SplitWindow, SetWindow, EraseWindow, EraseLine, SetCursor}
-use Rattle.zk_code.specs.declared.opcode.Window.TheVariants.{GetCursor, ShowStatus}
+use Rattle.zk_code.specs.declared.opcode.Window.TheVariants.{GetCursor, ShowStatus, SetTextStyle, SetFont, SoundEffect}
 use Rattle.zk_code.specs.declared.opcode.Stream.TheVariants.{OutputStream, InputStream}
 use Rattle.zk_code.specs.declared.opcode.Table.TheVariants.{ScanTable, CopyTable, PrintTable}
 use Rattle.zk_code.specs.declared.opcode.Saving.TheVariants.{SaveBranch, SaveStore, RestoreBranch, RestoreStore, Save}
@@ -289,14 +289,14 @@ VariableOperandRows =
     ∷ listed (opcode.Assignment Pull) 1 Nothing ∷ listed (opcode.Window SplitWindow) 1 Nothing
     ∷ listed (opcode.Window SetWindow) 1 Nothing ∷ None ∷ None ∷ None ∷ None ∷ None ∷ None ∷ None
     ∷ listed (opcode.Stream OutputStream) 1 Nothing ∷ listed (opcode.Stream InputStream) 1 Nothing
-    ∷ listed (opcode.Idle SoundEffect) 0 Nothing ∷ None ∷ None ∷ None ∷ None ∷ None ∷ None ∷ None ∷ None ∷ None
+    ∷ listed (opcode.Window SoundEffect) 0 Nothing ∷ None ∷ None ∷ None ∷ None ∷ None ∷ None ∷ None ∷ None ∷ None
     ∷ None ∷ [])
     × (map (variable_operand 4) (4 ∷ 12 ∷ 13 ∷ 14 ∷ 15 ∷ 16 ∷ 17 ∷ 18 ∷ 22 ∷ 23 ∷ 24 ∷ 25 ∷ 26 ∷ 27 ∷ 28 ∷ 29
     ∷ 30 ∷ 31 ∷ [])
     ≡ listed (opcode.Reading Sread) 2 Nothing ∷ listed (opcode.Call CallVs2) 1 Stores
     ∷ listed (opcode.Window EraseWindow) 1 Nothing ∷ listed (opcode.Window EraseLine) 1 Nothing
     ∷ listed (opcode.Window SetCursor) 2 Nothing ∷ listed (opcode.Window GetCursor) 1 Nothing
-    ∷ listed (opcode.Idle SetTextStyle) 1 Nothing ∷ listed (opcode.Idle BufferMode) 1 Nothing
+    ∷ listed (opcode.Window SetTextStyle) 1 Nothing ∷ listed (opcode.Idle BufferMode) 1 Nothing
     ∷ listed (opcode.Reading ReadChar) 0 Stores ∷ listed (opcode.Table ScanTable) 3 StoresBranches ∷ None ∷ None
     ∷ None ∷ None ∷ None ∷ None ∷ None ∷ None ∷ [])
     × (map (variable_operand 5) (4 ∷ 12 ∷ 13 ∷ 14 ∷ 15 ∷ 16 ∷ 17 ∷ 18 ∷ 22 ∷ 23 ∷ 24 ∷ 25 ∷ 26 ∷ 27 ∷ 28 ∷ 29
@@ -304,7 +304,7 @@ VariableOperandRows =
     ≡ listed (opcode.Reading Aread) 1 Stores ∷ listed (opcode.Call CallVs2) 1 Stores
     ∷ listed (opcode.Window EraseWindow) 1 Nothing ∷ listed (opcode.Window EraseLine) 1 Nothing
     ∷ listed (opcode.Window SetCursor) 2 Nothing ∷ listed (opcode.Window GetCursor) 1 Nothing
-    ∷ listed (opcode.Idle SetTextStyle) 1 Nothing ∷ listed (opcode.Idle BufferMode) 1 Nothing
+    ∷ listed (opcode.Window SetTextStyle) 1 Nothing ∷ listed (opcode.Idle BufferMode) 1 Nothing
     ∷ listed (opcode.Reading ReadChar) 0 Stores ∷ listed (opcode.Table ScanTable) 3 StoresBranches
     ∷ listed (opcode.Arithmetic Not) 1 Stores ∷ listed (opcode.Call CallVn) 1 Nothing
     ∷ listed (opcode.Call CallVn2) 1 Nothing ∷ listed (opcode.Words Tokenise) 2 Nothing
@@ -315,7 +315,7 @@ VariableOperandRows =
     ≡ listed (opcode.Reading Aread) 1 Stores ∷ listed (opcode.Call CallVs2) 1 Stores
     ∷ listed (opcode.Window EraseWindow) 1 Nothing ∷ listed (opcode.Window EraseLine) 1 Nothing
     ∷ listed (opcode.Window SetCursor) 2 Nothing ∷ listed (opcode.Window GetCursor) 1 Nothing
-    ∷ listed (opcode.Idle SetTextStyle) 1 Nothing ∷ listed (opcode.Idle BufferMode) 1 Nothing
+    ∷ listed (opcode.Window SetTextStyle) 1 Nothing ∷ listed (opcode.Idle BufferMode) 1 Nothing
     ∷ listed (opcode.Reading ReadChar) 0 Stores ∷ listed (opcode.Table ScanTable) 3 StoresBranches
     ∷ listed (opcode.Arithmetic Not) 1 Stores ∷ listed (opcode.Call CallVn) 1 Nothing
     ∷ listed (opcode.Call CallVn2) 1 Nothing ∷ listed (opcode.Words Tokenise) 2 Nothing
@@ -331,14 +331,14 @@ ExtendedRows =
     ∷ 24 ∷ 25 ∷ 26 ∷ 27 ∷ 28 ∷ 29 ∷ [])
     ≡ listed (opcode.Saving Save) 0 Stores ∷ listed (opcode.Saving Restore) 0 Stores
     ∷ listed (opcode.Arithmetic LogShift) 2 Stores ∷ listed (opcode.Arithmetic ArtShift) 2 Stores
-    ∷ listed (opcode.Idle SetFont) 1 Stores ∷ None ∷ None ∷ None ∷ None ∷ listed (opcode.Saving SaveUndo) 0 Stores
+    ∷ listed (opcode.Window SetFont) 1 Stores ∷ None ∷ None ∷ None ∷ None ∷ listed (opcode.Saving SaveUndo) 0 Stores
     ∷ listed (opcode.Saving RestoreUndo) 0 Stores ∷ listed (opcode.Printing PrintUnicode) 1 Nothing
     ∷ listed (opcode.Idle CheckUnicode) 1 Stores ∷ listed (opcode.Idle SetTrueColour) 2 Nothing ∷ None ∷ None
     ∷ None ∷ None ∷ None ∷ None ∷ None ∷ None ∷ None ∷ None ∷ None ∷ None ∷ None ∷ None ∷ None ∷ None ∷ [])
     × (map (extended 8) (0 ∷ 1 ∷ 2 ∷ 3 ∷ 4 ∷ 9 ∷ 10 ∷ 11 ∷ 12 ∷ 13 ∷ [])
     ≡ listed (opcode.Saving Save) 0 Stores ∷ listed (opcode.Saving Restore) 0 Stores
     ∷ listed (opcode.Arithmetic LogShift) 2 Stores ∷ listed (opcode.Arithmetic ArtShift) 2 Stores
-    ∷ listed (opcode.Idle SetFont) 1 Stores ∷ listed (opcode.Saving SaveUndo) 0 Stores
+    ∷ listed (opcode.Window SetFont) 1 Stores ∷ listed (opcode.Saving SaveUndo) 0 Stores
     ∷ listed (opcode.Saving RestoreUndo) 0 Stores ∷ listed (opcode.Printing PrintUnicode) 1 Nothing
     ∷ listed (opcode.Idle CheckUnicode) 1 Stores ∷ listed (opcode.Idle SetTrueColour) 2 Nothing ∷ [])
 

@@ -16,14 +16,16 @@ use Rattle.zk_step.specs.declared.state.ending.Request.TheVariants as request
 use Rattle.zk_step.specs.declared.state.game_state.GameState.{GameState}
 use Rattle.zk_step.specs.Instructions.{carried_out}
 use Rattle.zk_step.specs.Limited.{limited, limited_next}
-use Rattle.zk_step.specs.Routing.{Texts, with_line_start}
+use Rattle.zk_step.specs.Routing.{Signals, with_line_start}
+use Rattle.zk_term.specs.Signals.Signal.{Text}
+use Rattle.zk_term.specs.Styles.{roman}
 use Rattle.zk_step.specs.guards.Examples.{memory_of, routine_with, working, in_routine, instruction, with_bytes}
 
 -- ---- whole instructions
 
 -- nothing is shown
-abbrev pub silent : Texts
-silent = record { screen = []; script = [] }
+abbrev pub silent : Signals
+silent = []
 
 -- `sub` of local variable 1 and 3, stored in local variable 2: the next instruction follows (sections 4.6 and 15,
 -- `sub`)
@@ -47,7 +49,7 @@ CarriesOutABranch =
 abbrev pub CarriesOutPrinting : Type 0
 CarriesOutPrinting =
     carried_out (in_routine [] []) (instruction (opcode.Printing PrintChar) (Small 65 ∷ []) None None)
-    ≡ Ok (with_line_start false (in_routine [] []), (At 9, record { screen = codes "A"; script = [] }))
+    ≡ Ok (with_line_start false (in_routine [] []), (At 9, Text 65 roman ∷ []))
 
 -- `sread` takes its operands from left to right, and the story waits; `encode_text` of `i` goes on (section 15,
 -- `sread`, `encode_text`)

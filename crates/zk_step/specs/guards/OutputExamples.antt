@@ -5,21 +5,25 @@ use Rattle.std.specs.Prelude.{codes}
 use Rattle.zk_mem.specs.declared.fault.Fault.TheVariants.{BadAddress, StreamDepth}
 use Rattle.zk_mem.specs.Map.{MemoryMap}
 use Rattle.zk_text.specs.declared.unit.Unit.TheVariants as unit
+use Rattle.zk_term.specs.declared.style.Bleep.TheVariants as sound
+use Rattle.zk_term.specs.declared.style.Style.{Style}
 use Rattle.zk_term.specs.declared.windows.Window.TheVariants.{Upper}
-use Rattle.zk_term.specs.Windows.{Windows, first_windows, printed, split, window_selected}
+use Rattle.zk_term.specs.Signals.Signal.{Text, Script, Erase, Beep}
+use Rattle.zk_term.specs.Styles.{roman}
+use Rattle.zk_term.specs.Windows.{Windows, cleared, first_windows, printed, split, unsplit, window_selected}
 use Rattle.zk_code.specs.declared.opcode.Table.TheVariants.{ScanTable, PrintTable}
 use Rattle.zk_code.specs.declared.opcode.Window.TheVariants.{SplitWindow, SetWindow, EraseLine, SetCursor, GetCursor}
-use Rattle.zk_code.specs.declared.opcode.Window.TheVariants.{ShowStatus}
+use Rattle.zk_code.specs.declared.opcode.Window.TheVariants.{EraseWindow, ShowStatus, SetTextStyle, SetFont, SoundEffect}
 use Rattle.zk_step.specs.declared.state.ending.Ending.TheVariants.{GoOn}
-use Rattle.zk_step.specs.declared.state.ending.Output.TheVariants.{Code, Rows}
+use Rattle.zk_step.specs.declared.state.ending.Output.TheVariants.{Code, Rows, Erasure, Bleep}
 use Rattle.zk_step.specs.declared.state.random.Generators.{Generators}
 use Rattle.zk_step.specs.declared.output.streams.OpenTable.{OpenTable}
 use Rattle.zk_step.specs.declared.state.game_state.View.TheVariants as view
 use Rattle.zk_step.specs.declared.state.game_state.GameState.{GameState}
-use Rattle.zk_step.specs.Endings.{ends, goes_on, prints}
+use Rattle.zk_step.specs.Endings.{ends, gives, goes_on, prints}
 use Rattle.zk_step.specs.guards.Examples.{memory_of, working, routine_with}
 use Rattle.zk_step.specs.Random.{randomised}
-use Rattle.zk_step.specs.Routing.{routed, no_text, stored_all, ends_line, with_line_start}
+use Rattle.zk_step.specs.Routing.{routed, no_signals, stored_all, ends_line, with_line_start}
 use Rattle.zk_step.specs.Screens.{window_effect}
 use Rattle.zk_step.specs.Selecting.{stream_selected, with_streams}
 use Rattle.zk_step.specs.Streams.{OutputStreams, first_streams, opened}
@@ -77,6 +81,11 @@ flags_of flags = memory_of 5 (replicate 17 0 ++ flags ∷ 0 ∷ 0 ∷ [])
 abbrev pub streaming : MemoryMap → OutputStreams → GameState
 streaming m s = with_streams (working m (routine_with [] [] None) []) s
 
+-- one whose text style is set
+abbrev pub styled : MemoryMap → Style → GameState
+styled m style =
+    record (streaming m first_streams) { windows = record first_windows { style = style } }
+
 -- a number selects its stream and its negative deselects it; others do nothing (section 15, `output_stream`)
 abbrev pub StreamsAreSelected : Type 0
 StreamsAreSelected =
@@ -129,7 +138,7 @@ OpenTablesTakeText =
     ≡ Ok (
       streaming (memory_of 5 (replicate 17 0 ++ 1 ∷ 65 ∷ 0 ∷ []))
           (streams true (table 13 4 ∷ table 2 0 ∷ [])),
-      no_text,
+      no_signals,
     )
 
 -- text of the lower window goes to the screen while stream 1 is on, and to the transcript while its flag is set
@@ -137,12 +146,31 @@ abbrev pub StreamsShowText : Type 0
 StreamsShowText =
     (routed (flags_of 1) (streaming (flags_of 1) first_streams) (Code 65) ≡ Ok (
       with_line_start false (streaming (flags_of 1) first_streams),
-      record { screen = codes "A"; script = codes "A" },
+      Text 65 roman ∷ Script 65 ∷ [],
     ))
-    × (routed (flags_of 0xfe) (streaming (flags_of 0xfe) first_streams) (Code 65) ≡ Ok
-    (with_line_start false (streaming (flags_of 0xfe) first_streams), record { screen = codes "A"; script = [] }))
+    × (routed (flags_of 0xfc) (streaming (flags_of 0xfc) first_streams) (Code 65) ≡ Ok
+    (with_line_start false (streaming (flags_of 0xfc) first_streams), Text 65 roman ∷ []))
     × (routed (flags_of 1) (streaming (flags_of 1) (streams false [])) (Code 65) ≡ Ok
-    (streaming (flags_of 1) (streams false []), record { screen = []; script = codes "A" }))
+    (streaming (flags_of 1) (streams false []), Script 65 ∷ []))
+
+-- bold and italic
+abbrev pub emphatic : Style
+emphatic = record roman { bold = true; italic = true }
+
+-- text is shown in the style that is set, and with a fixed pitch while bit 1 of Flags 2 is set; the transcript has no
+-- styles, and erasures and bleeps don't ask for streams (sections 8.7.1, 9.1 and 11.1.2)
+abbrev pub StylesAreShown : Type 0
+StylesAreShown =
+    (routed (flags_of 1) (styled (flags_of 1) emphatic) (Code 65) ≡ Ok
+    (with_line_start false (styled (flags_of 1) emphatic), Text 65 emphatic ∷ Script 65 ∷ []))
+    × (routed (flags_of 2) (styled (flags_of 2) emphatic) (Code 65) ≡ Ok
+    (with_line_start false (styled (flags_of 2) emphatic), Text 65 (record emphatic { fixed = true }) ∷ []))
+    × (routed (flags_of 0xfd) (styled (flags_of 0xfd) (record roman { fixed = true })) (Code 13) ≡ Ok
+    (styled (flags_of 0xfd) (record roman { fixed = true }), Text 10 (record roman { fixed = true }) ∷ Script 10 ∷ []))
+    × (routed (flags_of 0) (streaming (flags_of 0) (streams false (table 4 0 ∷ []))) Erasure ≡ Ok
+    (streaming (flags_of 0) (streams false (table 4 0 ∷ [])), Erase ∷ []))
+    × (routed (flags_of 1) (streaming (flags_of 1) first_streams) (Bleep sound.Low) ≡ Ok
+    (streaming (flags_of 1) first_streams, Beep sound.Low ∷ []))
 
 -- ---- windows
 
@@ -158,9 +186,9 @@ upper_selected = window_selected Upper (split 5 3 first_windows)
 abbrev pub UpperTextStaysThere : Type 0
 UpperTextStaysThere =
     (routed (flags_of 1) (with_windows upper_selected) (Code 65) ≡ Ok
-    (with_windows (printed (codes "A") upper_selected), no_text))
+    (with_windows (printed (codes "A") upper_selected), no_signals))
     × (routed (flags_of 1) (with_streams (with_windows upper_selected) (streams false [])) (Code 13) ≡ Ok
-    (with_streams (with_windows upper_selected) (streams false []), no_text))
+    (with_streams (with_windows upper_selected) (streams false []), no_signals))
 
 -- a table is searched by words of two bytes, unless a form is given; what is found is given and tested (section 15,
 -- `scan_table`)
@@ -201,6 +229,41 @@ WindowsAreChanged =
     × (window_effect SetCursor (with_windows upper_selected) (2 ∷ 0 ∷ []) ≡ Ok
     (with_windows (record upper_selected { row = 2; column = 1 }), goes_on))
     × (window_effect EraseLine (with_windows upper_selected) (2 ∷ []) ≡ Ok (with_windows upper_selected, goes_on))
+
+-- window 0 is the lower one, 1 the upper one, -1 and -2 are the whole screen; -1 takes the upper window away (section
+-- 8.7.3)
+abbrev pub WindowsAreErased : Type 0
+WindowsAreErased =
+    (window_effect EraseWindow (with_windows upper_selected) (0 ∷ []) ≡ Ok (with_windows upper_selected, prints Erasure))
+    × (window_effect EraseWindow (with_windows upper_selected) (1 ∷ []) ≡ Ok
+    (with_windows (cleared upper_selected), goes_on))
+    × (window_effect EraseWindow (with_windows upper_selected) (65535 ∷ []) ≡ Ok
+    (with_windows (unsplit upper_selected), prints Erasure))
+    × (window_effect EraseWindow (with_windows upper_selected) (65534 ∷ []) ≡ Ok
+    (with_windows (cleared upper_selected), prints Erasure))
+    × (window_effect EraseWindow (with_windows upper_selected) (2 ∷ []) ≡ Ok (with_windows upper_selected, goes_on))
+
+-- Styles are added up until roman is set; fonts 0 and 1 are there and 4 is not; sounds 1 and 2 are bleeps, a high and a
+-- low one, and there are no others (sections 8.7.1, 9.1 and 15)
+abbrev pub StylesFontsAndBleeps : Type 0
+StylesFontsAndBleeps =
+    (window_effect SetTextStyle (with_windows first_windows) (2 ∷ []) ≡ Ok
+    (with_windows (record first_windows { style = record roman { bold = true } }), goes_on))
+    × (window_effect SetTextStyle (with_windows (record first_windows { style = record roman { bold = true } }))
+    (4 ∷ []) ≡ Ok (with_windows (record first_windows { style = emphatic }), goes_on))
+    × (window_effect SetTextStyle (with_windows (record first_windows { style = emphatic })) (0 ∷ []) ≡ Ok
+    (with_windows first_windows, goes_on))
+    × (window_effect SetTextStyle (with_windows first_windows) (9 ∷ []) ≡ Ok
+    (with_windows (record first_windows { style = record roman { reverse = true; fixed = true } }), goes_on))
+    × (window_effect SetFont (with_windows first_windows) (1 ∷ []) ≡ Ok (with_windows first_windows, gives 1))
+    × (window_effect SetFont (with_windows first_windows) (0 ∷ []) ≡ Ok (with_windows first_windows, gives 1))
+    × (window_effect SetFont (with_windows first_windows) (4 ∷ []) ≡ Ok (with_windows first_windows, gives 0))
+    × (window_effect SoundEffect (with_windows first_windows) (1 ∷ []) ≡ Ok
+    (with_windows first_windows, prints (Bleep sound.High)))
+    × (window_effect SoundEffect (with_windows first_windows) (2 ∷ 3 ∷ []) ≡ Ok
+    (with_windows first_windows, prints (Bleep sound.Low)))
+    × (window_effect SoundEffect (with_windows first_windows) (3 ∷ []) ≡ Ok (with_windows first_windows, goes_on))
+    × (window_effect SoundEffect (with_windows first_windows) [] ≡ Ok (with_windows first_windows, goes_on))
 
 -- row and column of the cursor are stored in two words, the row first (section 15, `get_cursor`)
 abbrev pub CursorsAreTold : Type 0

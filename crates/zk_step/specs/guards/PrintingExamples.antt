@@ -1,8 +1,8 @@
 -- Worked examples of what is printed, by hand from the Standard.
 use Rattle.std.specs.Prelude.{◌≡◌, [], ◌∷◌, ◌++◌, Some, None, Ok, true, codes}
 use Rattle.zk_mem.specs.Map.{MemoryMap}
-use Rattle.zk_code.specs.declared.opcode.Idle.TheVariants.{Nop, SetColour, SetTrueColour, SetTextStyle, BufferMode}
-use Rattle.zk_code.specs.declared.opcode.Idle.TheVariants.{SoundEffect, SetFont, Piracy, CheckUnicode}
+use Rattle.zk_code.specs.declared.opcode.Idle.TheVariants.{Nop, SetColour, SetTrueColour, BufferMode, Piracy}
+use Rattle.zk_code.specs.declared.opcode.Idle.TheVariants.{CheckUnicode}
 use Rattle.zk_code.specs.declared.opcode.Printing.TheVariants.{Print, PrintRet, NewLine, PrintNum, PrintChar}
 use Rattle.zk_code.specs.declared.opcode.Printing.TheVariants.{PrintUnicode, PrintAddr, PrintPaddr}
 use Rattle.zk_step.specs.declared.state.ending.Ending.TheVariants as ending
@@ -57,19 +57,13 @@ PrintsAndReturns =
 
 -- ---- what does nothing (sections 7, 8 and 15)
 
--- fonts 0 and 1 are there and 4 is not, the game is genuine, and colours, styles, buffering and sounds do nothing
--- (section 15, `set_font`, `piracy`)
-abbrev pub FontsAndColours : Type 0
-FontsAndColours =
-    (idle SetFont with_text (1 ∷ []) ≡ gives 1)
-    × (idle SetFont with_text (0 ∷ []) ≡ gives 1)
-    × (idle SetFont with_text (4 ∷ []) ≡ gives 0)
-    × (idle Piracy with_text [] ≡ tests true)
+-- the game is genuine, and colours and buffering do nothing (section 15, `piracy`)
+abbrev pub ColoursAndBuffering : Type 0
+ColoursAndBuffering =
+    (idle Piracy with_text [] ≡ tests true)
     × (idle SetColour with_text (3 ∷ 4 ∷ []) ≡ goes_on)
     × (idle SetTrueColour with_text (3 ∷ 4 ∷ []) ≡ goes_on)
-    × (idle SetTextStyle with_text (2 ∷ []) ≡ goes_on)
     × (idle BufferMode with_text (0 ∷ []) ≡ goes_on)
-    × (idle SoundEffect with_text (1 ∷ []) ≡ goes_on)
     × (idle Nop with_text [] ≡ goes_on)
 
 -- `a` and the small e with an acute accent can be printed and read, a Cyrillic letter printed alone, a control not

@@ -2,7 +2,7 @@
 
 ghost use Rattle.std.specs.Prelude.{◌≡◌};
 ghost use Rattle.zk_text.specs.Extra.{own_characters, code_of};
-ghost use Rattle.zk_step.specs.Idle.{idle, font_answer, unicode_answer};
+ghost use Rattle.zk_step.specs.Idle.{idle, unicode_answer};
 
 use crate::state::ending::{Effect, Output};
 use crate::state::values::Values;
@@ -23,8 +23,8 @@ fn unicode(memory: &Memory, character: u16) -> u16
     }
 }
 
-/// The effect of an opcode that changes nothing. Colours, styles, buffering and sounds have none: on a plain
-/// terminal a story must still run that asks for them without a look at the header.
+/// The effect of an opcode that changes nothing. Colours and buffering have none: on a plain terminal a story must
+/// still run that asks for them without a look at the header.
 #[tactic(auto, unfolding(crate::specs::Idle::idle))]
 pub fn idle_effect(operation: Idle, memory: &Memory, values: &Values) -> Effect
     ensures value { result ≡ idle operation memory.now values.now }
@@ -32,13 +32,7 @@ pub fn idle_effect(operation: Idle, memory: &Memory, values: &Values) -> Effect
 {
     let operand = values.first();
     match operation {
-        Idle::Nop
-        | Idle::SetColour
-        | Idle::SetTrueColour
-        | Idle::SetTextStyle
-        | Idle::BufferMode
-        | Idle::SoundEffect => Effect::goes_on(),
-        Idle::SetFont => Effect::gives(if operand <= 1 { 1 } else { 0 }),
+        Idle::Nop | Idle::SetColour | Idle::SetTrueColour | Idle::BufferMode => Effect::goes_on(),
         Idle::Piracy => Effect::tests(true),
         Idle::CheckUnicode => Effect::gives(unicode(memory, operand)),
     }

@@ -1,10 +1,12 @@
-// The opcodes of windows.
+// The opcodes of windows, styles, fonts and bleeps.
 
 ghost use Rattle.zk_state.specs.Frames.{bounds_of};
-ghost use Rattle.std.specs.Prelude.{◌≡◌, IfOk, Ok, Err, MatchResult};
+ghost use Rattle.std.specs.Prelude.{◌≡◌, IfOk, None, Ok, Err, MatchResult};
+ghost use Rattle.zk_mem.specs.Map.{MemoryMap};
+ghost use Rattle.zk_step.specs.declared.state.ending.Ending.TheVariants.{GoOn};
 ghost use Rattle.zk_step.specs.Printing.{IsLong, IsPrintable};
 ghost use Rattle.zk_step.specs.Screens.{selected_by, erased_by, erased_line, in_upper, or_first, windows_changed};
-ghost use Rattle.zk_step.specs.Screens.{cursor_stored, status_by, window_effect};
+ghost use Rattle.zk_step.specs.Screens.{cursor_stored, status_by, window_effect, erasure_of, bleep_of, font_answer};
 ghost use Rattle.zk_term.specs.Windows.{cursor_set};
 
 use crate::output::status::status_line;
@@ -14,6 +16,7 @@ use crate::state::values::Values;
 use zk_code::opcode::Window as Operation;
 use zk_mem::fault::Fault;
 use zk_mem::memory::Memory;
+use zk_term::style::Bleep;
 use zk_term::windows::{Window, Windows};
 
 /// Selects a window by its number; others than 0 and 1 do nothing.
@@ -36,6 +39,38 @@ fn erase(windows: &mut Windows, number: u16)
         0xffff => windows.unsplit(),
         _ => {}
     }
+}
+
+/// What is shown beside an erasure of a window: that of the lower window, by its number or as a part of the screen.
+fn erasure(number: u16) -> Output
+    ensures value { result ≡ erasure_of number }
+    ensures ready { (m : MemoryMap) → IsPrintable m m result (GoOn None None) }
+    ensures short { IsLong result → ⊥ }
+{
+    match number {
+        0 | 0xfffe | 0xffff => Output::Erasure,
+        _ => Output::Nothing,
+    }
+}
+
+/// The bleep of a sound, where it is one.
+fn bleep(number: u16) -> Output
+    ensures value { result ≡ bleep_of number }
+    ensures ready { (m : MemoryMap) → IsPrintable m m result (GoOn None None) }
+    ensures short { IsLong result → ⊥ }
+{
+    match number {
+        1 => Output::Bleep(Bleep::High),
+        2 => Output::Bleep(Bleep::Low),
+        _ => Output::Nothing,
+    }
+}
+
+/// The number of the font that was set before, or 0 where the one that is asked for can't be set.
+fn font(number: u16) -> u16
+    ensures { result ≡ font_answer number }
+{
+    if number <= 1 { 1 } else { 0 }
 }
 
 /// Erases the rest of the cursor's row, where the value is 1 and the upper window is selected.
@@ -102,7 +137,7 @@ fn show_status(game: &GameState) -> Result<Effect, Fault>
     }
 }
 
-/// The effect of an opcode of windows.
+/// The effect of an opcode of windows, styles, fonts or bleeps.
 #[tactic(auto, unfolding(crate::specs::Screens::window_effect))]
 pub fn windows_effect(
     operation: Operation,
@@ -121,13 +156,19 @@ pub fn windows_effect(
     match operation {
         Operation::SplitWindow => game.windows.split(game.memory.version(), first),
         Operation::SetWindow => select(&mut game.windows, first),
-        Operation::EraseWindow => erase(&mut game.windows, first),
+        Operation::EraseWindow => {
+            erase(&mut game.windows, first);
+            return Ok(Effect::prints(erasure(first)));
+        }
         Operation::EraseLine => erase_line(&mut game.windows, first),
         Operation::SetCursor => set_cursor(&mut game.windows, first, values.second()),
         Operation::GetCursor => {
             store_cursor(&mut game.memory, first, &game.windows)?;
         }
         Operation::ShowStatus => return show_status(game),
+        Operation::SetTextStyle => game.windows.set_style(first),
+        Operation::SetFont => return Ok(Effect::gives(font(first))),
+        Operation::SoundEffect => return Ok(Effect::prints(bleep(first))),
     }
     Ok(Effect::goes_on())
 }

@@ -62,7 +62,7 @@ pub fn give_output<K: Sink>(memory: &Memory, output: Output, sink: &mut K) -> Re
     ensures err { OnErr result (K.refused sink.old sink.new (units_of memory.now output)) }
 {
     match output {
-        Output::Nothing | Output::Status => Ok(()),
+        Output::Nothing | Output::Status | Output::Erasure | Output::Bleep(_) => Ok(()),
         Output::Code(code) => sink.put(Unit::Code(code)),
         Output::Character(character) => sink.put(Unit::Character(character)),
         Output::Number(word) => give_number(sink, word),

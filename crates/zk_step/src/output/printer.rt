@@ -4,21 +4,24 @@ ghost use Rattle.std.specs.Prelude.{◌≡◌, [], ◌∷◌, ◌++◌, List, �
 ghost use Rattle.zk_text.specs.declared.unit.Unit.{Unit};
 ghost use Rattle.zk_text.specs.Shown.{shown, characters_shown};
 ghost use Rattle.zk_term.specs.Windows.{printed};
-ghost use Rattle.zk_step.specs.Routing.{code_stored, unit_stored, shown_if, ends_line};
+ghost use Rattle.zk_step.specs.Routing.{code_stored, unit_stored, shown_if, ends_line, streamed_all};
+ghost use Rattle.zk_term.specs.Signals.Signal.{Text, Script};
 
 use crate::output::codes::{Codes, Full};
 use zk_term::screen::Screen;
+use zk_term::style::Style;
 use zk_term::windows::Windows;
 use zk_text::extra::Extra;
 use zk_text::shown::Shown;
 use zk_text::sink::{Sink, SinkFault};
 use zk_text::unit::Unit;
 
-/// Which of streams 1 and 2 are on.
+/// Which of streams 1 and 2 are on, and the style in which the screen gets text.
 #[derive(Clone, Copy, Drop)]
 pub struct Selected {
     pub screen: bool,
     pub script: bool,
+    pub style: Style,
 }
 
 /// Shows units of text on the streams that are on, by the extra characters in force.
@@ -40,12 +43,12 @@ impl<'a, S: Screen> Printer<'a, S> {
         ensures start { self.new.at_line_start
             ≡ ends_line self.old.at_line_start (shown_if self.old.selected.screen (c ∷ [])) }
         ensures shown { S.shows self.old.screen.now self.new.screen.now
-            (shown_if self.old.selected.screen (c ∷ [])) [] }
+            (shown_if self.old.selected.screen (Text c self.old.selected.style ∷ [])) }
     {
         match self.selected.screen {
             false => {}
             true => {
-                self.screen.text(c);
+                self.screen.text(c, self.selected.style);
                 self.at_line_start = c == '\n';
             }
         }
@@ -56,8 +59,8 @@ impl<'a, S: Screen> Printer<'a, S> {
         ensures kept { (self.new.screen.ghost_name ≡ self.old.screen.ghost_name)
             × (self.new.extra.now ≡ self.old.extra.now) × (self.new.selected ≡ self.old.selected) }
         ensures start { self.new.at_line_start ≡ self.old.at_line_start }
-        ensures shown { S.shows self.old.screen.now self.new.screen.now []
-            (shown_if self.old.selected.script (c ∷ [])) }
+        ensures shown { S.shows self.old.screen.now self.new.screen.now
+            (shown_if self.old.selected.script (Script c ∷ [])) }
     {
         match self.selected.script {
             false => {}
@@ -73,8 +76,7 @@ impl<'a, S: Screen> Printer<'a, S> {
         ensures start { self.new.at_line_start
             ≡ ends_line self.old.at_line_start (shown_if self.old.selected.screen (c ∷ [])) }
         ensures shown { S.shows self.old.screen.now self.new.screen.now
-            (shown_if self.old.selected.screen (c ∷ []))
-            (shown_if self.old.selected.script (c ∷ [])) }
+            (streamed_all self.old.selected (c ∷ [])) }
     {
         self.show_on_screen(c);
         self.show_in_script(c);

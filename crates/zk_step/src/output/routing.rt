@@ -13,9 +13,11 @@ ghost use Rattle.zk_step.specs.Limited.{limited_next};
 ghost use Rattle.zk_step.specs.Printed.{Collected};
 ghost use Rattle.zk_step.specs.Printing.{characters_of, units_of, rows_or_none, IsPlainEnd, IsPrintable, IsReady};
 ghost use Rattle.zk_step.specs.Routes.{finished_after, IsRouted, IsRoutedBy};
-ghost use Rattle.zk_step.specs.Routing.{routed, routed_by, routed_to, no_text, streamed, stored_all, table_filled};
+ghost use Rattle.zk_step.specs.Routing.{routed, routed_by, routed_to, no_signals, streamed, stored_all, table_filled};
 ghost use Rattle.zk_step.specs.Routing.{upper_printed, rectangle_printed, printed_if, script_is_on, status_shown};
-ghost use Rattle.zk_step.specs.Routing.{text_routed, with_line_start};
+ghost use Rattle.zk_step.specs.Routing.{text_routed, with_line_start, is_bit_1_set, selected_in, style_shown};
+ghost use Rattle.zk_step.specs.Selecting.{flags_2};
+ghost use Rattle.zk_mem.specs.Map.{byte_at};
 ghost use Rattle.zk_step.specs.Status.{status_units};
 ghost use Rattle.zk_step.specs.Streams.{newest_of};
 
@@ -35,6 +37,7 @@ use zk_state::refusal::Refusal;
 use zk_tables::arrays::rectangle::{Rectangle, give_row};
 use zk_tables::arrays::runs::put_bytes;
 use zk_term::screen::Screen;
+use zk_term::style::Style;
 use zk_term::windows::{Window, Windows};
 use zk_text::extra::Extra;
 
@@ -106,28 +109,58 @@ pub fn is_script_on(memory: &Memory) -> bool
     }
 }
 
+/// Whether all text is shown with a fixed pitch: it is a bit of Flags 2 (Standard, section 11.1.2).
+fn is_fixed(memory: &Memory) -> bool
+    ensures { result ≡ is_bit_1_set (byte_at memory.now flags_2) }
+{
+    match memory.byte(0x11) {
+        Ok(flags) => flags / 2 % 2 == 1,
+        Err(_) => false,
+    }
+}
+
+/// A style, with a fixed pitch where all text is shown so.
+#[tactic(auto, unfolding(crate::specs::Routing::style_shown))]
+fn style_shown(memory: &Memory, style: Style) -> Style
+    ensures { result ≡ style_shown memory.now style }
+{
+    Style {
+        fixed: style.fixed || is_fixed(memory),
+        reverse: style.reverse,
+        bold: style.bold,
+        italic: style.italic,
+    }
+}
+
+/// The streams that are on, and the style in which text is shown.
+fn selected(game: &GameState) -> Selected
+    ensures { result ≡ selected_in game.now.memory game.now }
+{
+    Selected {
+        screen: game.streams.screen(),
+        script: is_script_on(&game.memory),
+        style: style_shown(&game.memory, game.windows.style()),
+    }
+}
+
 /// Shows what is printed on the screen and in the transcript, while they are on.
 fn show_text<S: Screen>(game: &mut GameState, output: Output, screen: &mut S)
     requires ready { IsReady game.old.memory output }
     ensures state { game.new
         ≡ (streamed game.old.memory game.old (characters_of game.old.memory output)).0 }
     ensures text { S.shows screen.old screen.new
-        (streamed game.old.memory game.old (characters_of game.old.memory output)).1.screen
-        (streamed game.old.memory game.old (characters_of game.old.memory output)).1.script }
+        (streamed game.old.memory game.old (characters_of game.old.memory output)).1 }
 {
-    let selected = Selected {
-        screen: game.streams.screen(),
-        script: is_script_on(&game.memory),
-    };
+    let on = selected(game);
     // where neither gets it, the text is not walked
-    if !selected.screen && !selected.script {
+    if !on.screen && !on.script {
         return;
     }
     let extra = Extra::of(&game.memory);
     let mut printer = Printer {
         screen,
         extra: &extra,
-        selected,
+        selected: on,
         at_line_start: game.at_line_start,
     };
     match give_output(&game.memory, output, &mut printer) {
@@ -141,8 +174,7 @@ fn show_status<S: Screen>(game: &mut GameState, screen: &mut S)
     requires { IsOk (status_units game.old.memory) }
     ensures state { game.new ≡ with_line_start true game.old }
     ensures text { S.shows screen.old screen.new
-        (text_routed (status_shown game.old.memory game.old (status_units game.old.memory))).screen
-        [] }
+        (text_routed (status_shown game.old.memory game.old (status_units game.old.memory))) }
 {
     start_line(screen, game.at_line_start);
     show_status_line(&game.memory, screen);
@@ -257,9 +289,8 @@ fn route_text<S: Screen>(
         i.now begun.now.values begun.now.effect.ending) ≡ Err e) }
     ensures text { MatchResult result (λ _. S.shows screen.old screen.new
         (text_routed (routed_by (newest_of game.old.streams.tables) game.old.memory game.old
-        output)).screen (text_routed (routed_by (newest_of game.old.streams.tables)
-        game.old.memory game.old output)).script)
-        (λ _. S.shows screen.old screen.new [] []) }
+        output)))
+        (λ _. S.shows screen.old screen.new []) }
     ensures bounds { bounds_of game.new.frames ≡ bounds_of game.old.frames }
 {
     match game.streams.newest() {
@@ -299,9 +330,8 @@ pub(crate) fn route<S: Screen>(
         (λ e. limited_next (finished_after (routed game.old.memory game.old begun.now.effect.output)
         i.now begun.now.values begun.now.effect.ending) ≡ Err e) }
     ensures text { MatchResult result (λ _. S.shows screen.old screen.new
-        (text_routed (routed game.old.memory game.old begun.now.effect.output)).screen
-        (text_routed (routed game.old.memory game.old begun.now.effect.output)).script)
-        (λ _. S.shows screen.old screen.new [] []) }
+        (text_routed (routed game.old.memory game.old begun.now.effect.output)))
+        (λ _. S.shows screen.old screen.new []) }
     ensures bounds { bounds_of game.new.frames ≡ bounds_of game.old.frames }
 {
     match begun.effect.output {
@@ -309,6 +339,20 @@ pub(crate) fn route<S: Screen>(
         Output::Status => match check(game, i, begun) {
             Ok(()) => {
                 show_status(game, screen);
+                Ok(())
+            }
+            Err(refusal) => Err(refusal),
+        },
+        Output::Erasure => match check(game, i, begun) {
+            Ok(()) => {
+                screen.erase();
+                Ok(())
+            }
+            Err(refusal) => Err(refusal),
+        },
+        Output::Bleep(bleep) => match check(game, i, begun) {
+            Ok(()) => {
+                screen.beep(bleep);
                 Ok(())
             }
             Err(refusal) => Err(refusal),
@@ -370,12 +414,9 @@ fn show_lower_part<S: Screen>(
         (rest_on game.old.memory result half.new.rest))) }
     ensures same { half.new.effect ≡ half.old.effect }
 {
-    let selected = Selected {
-        screen: game.streams.screen(),
-        script: is_script_on(&game.memory),
-    };
+    let on = selected(game);
     let line = &mut half.at_line_start;
-    let more = show_part(&game.memory, selected, &mut half.rest, line, screen, words);
+    let more = show_part(&game.memory, on, &mut half.rest, line, screen, words);
     if !more {
         game.at_line_start = half.at_line_start;
     }
@@ -433,7 +474,7 @@ pub(crate) fn route_part<S: Screen>(
         (rest_text game.old half.old.rest)
         (rest_text_by (newest_of game.old.streams.tables) game.old.windows.selected game.old
         (rest_on game.old.memory on half.new.rest))) }
-    ensures nothing { OnErr result (S.shows screen.old screen.new [] []) }
+    ensures nothing { OnErr result (S.shows screen.old screen.new []) }
     ensures same { half.new.effect ≡ half.old.effect }
     ensures bounds { bounds_of game.new.frames ≡ bounds_of game.old.frames }
 {

@@ -6,7 +6,7 @@ ghost use Rattle.zk_text.specs.declared.unit.Unit.{Unit};
 ghost use Rattle.zk_text.specs.Extra.{own_characters};
 ghost use Rattle.zk_text.specs.Shown.{shown_all};
 ghost use Rattle.zk_term.specs.Windows.{row_text};
-ghost use Rattle.zk_step.specs.Routing.{fresh_line};
+ghost use Rattle.zk_step.specs.Routing.{fresh_line, on_screen};
 ghost use Rattle.zk_step.specs.Status.{status_units};
 ghost use Rattle.zk_step.specs.View.{viewed, viewed_by, rows_shown};
 ghost use Rattle.zk_step.specs.Routing.{text_routed};
@@ -19,6 +19,7 @@ use crate::state::game_state::{GameState, View};
 use zk_mem::fault::Fault;
 use zk_mem::memory::Memory;
 use zk_term::screen::Screen;
+use zk_term::style::Style;
 use zk_term::windows::Windows;
 use zk_text::extra::Extra;
 use zk_text::sink::Sink;
@@ -26,10 +27,10 @@ use zk_text::unit::Unit;
 
 /// Shows a new line, unless the last character was one.
 pub(crate) fn start_line<S: Screen>(screen: &mut S, at_line_start: bool)
-    ensures { S.shows screen.old screen.new (fresh_line at_line_start) [] }
+    ensures { S.shows screen.old screen.new (on_screen (fresh_line at_line_start)) }
 {
     if !at_line_start {
-        screen.text('\n');
+        screen.text('\n', Style::roman());
     }
 }
 
@@ -37,8 +38,8 @@ pub(crate) fn start_line<S: Screen>(screen: &mut S, at_line_start: bool)
 pub fn show_status_line<S: Screen>(memory: &Memory, screen: &mut S)
     requires { IsOk (status_units memory.now) }
     ensures { (units : List Unit) → status_units memory.now ≡ Ok units
-        → S.shows screen.old screen.new (shown_all (own_characters memory.now) units ++ 10 ∷ [])
-        [] }
+        → S.shows screen.old screen.new
+        (on_screen (shown_all (own_characters memory.now) units ++ 10 ∷ [])) }
 {
     let Ok(line) = status_line(memory) else {
         unreachable!()
@@ -50,6 +51,7 @@ pub fn show_status_line<S: Screen>(memory: &Memory, screen: &mut S)
         selected: Selected {
             screen: true,
             script: false,
+            style: Style::roman(),
         },
         at_line_start: true,
     };
@@ -62,28 +64,28 @@ pub fn show_status_line<S: Screen>(memory: &Memory, screen: &mut S)
 
 /// Shows characters on the screen.
 fn show_characters<S: Screen>(screen: &mut S, characters: &[char])
-    ensures { S.shows screen.old screen.new characters.now [] }
+    ensures { S.shows screen.old screen.new (on_screen characters.now) }
 {
     for c in characters {
-        screen.text(*c);
+        screen.text(*c, Style::roman());
     }
 }
 
 /// Shows a row of the upper window on a line, after a bar and a space.
 fn show_row<S: Screen>(screen: &mut S, windows: &Windows, row: u8)
     requires { 1 ≤ row }
-    ensures { S.shows screen.old screen.new (124 ∷ 32 ∷ row_text windows.now row ++ 10 ∷ []) [] }
+    ensures { S.shows screen.old screen.new (on_screen (124 ∷ 32 ∷ row_text windows.now row ++ 10 ∷ [])) }
 {
-    screen.text('|');
-    screen.text(' ');
+    screen.text('|', Style::roman());
+    screen.text(' ', Style::roman());
     show_characters(screen, windows.row(row));
-    screen.text('\n');
+    screen.text('\n', Style::roman());
 }
 
 /// Shows the rows of the upper window.
 #[tactic(auto, using(crate::proofs::Viewing::no_rows))]
 fn show_rows<S: Screen>(screen: &mut S, windows: &Windows)
-    ensures { S.shows screen.old screen.new (rows_shown windows.now 1 windows.now.height) [] }
+    ensures { S.shows screen.old screen.new (on_screen (rows_shown windows.now 1 windows.now.height)) }
 {
     for row in 0..windows.height() {
         show_row(screen, windows, row + 1);
@@ -114,8 +116,7 @@ pub fn check_view(game: &GameState) -> Result<(), Fault>
 pub fn show_view<S: Screen>(game: &mut GameState, screen: &mut S)
     requires { IsOk (viewed game.old) }
     ensures state { viewed game.old ≡ Ok (game.new, text_routed (viewed game.old)) }
-    ensures text { S.shows screen.old screen.new (text_routed (viewed game.old)).screen
-        (text_routed (viewed game.old)).script }
+    ensures text { S.shows screen.old screen.new (text_routed (viewed game.old)) }
     ensures bounds { bounds_of game.new.frames ≡ bounds_of game.old.frames }
 {
     match game.view {
@@ -131,8 +132,7 @@ fn show_status_and_rows<S: Screen>(game: &mut GameState, screen: &mut S)
     ensures state { viewed_by view.Upper game.old
         ≡ Ok (game.new, text_routed (viewed_by view.Upper game.old)) }
     ensures text { S.shows screen.old screen.new
-        (text_routed (viewed_by view.Upper game.old)).screen
-        (text_routed (viewed_by view.Upper game.old)).script }
+        (text_routed (viewed_by view.Upper game.old)) }
     ensures bounds { bounds_of game.new.frames ≡ bounds_of game.old.frames }
 {
     start_line(screen, game.at_line_start);
@@ -147,8 +147,7 @@ fn show_rows_alone<S: Screen>(game: &mut GameState, screen: &mut S)
     ensures state { viewed_by view.Upper game.old
         ≡ Ok (game.new, text_routed (viewed_by view.Upper game.old)) }
     ensures text { S.shows screen.old screen.new
-        (text_routed (viewed_by view.Upper game.old)).screen
-        (text_routed (viewed_by view.Upper game.old)).script }
+        (text_routed (viewed_by view.Upper game.old)) }
     ensures bounds { bounds_of game.new.frames ≡ bounds_of game.old.frames }
 {
     if game.windows.height() == 0 {
@@ -165,8 +164,7 @@ fn show_lines<S: Screen>(game: &mut GameState, screen: &mut S)
     ensures state { viewed_by view.Upper game.old
         ≡ Ok (game.new, text_routed (viewed_by view.Upper game.old)) }
     ensures text { S.shows screen.old screen.new
-        (text_routed (viewed_by view.Upper game.old)).screen
-        (text_routed (viewed_by view.Upper game.old)).script }
+        (text_routed (viewed_by view.Upper game.old)) }
     ensures bounds { bounds_of game.new.frames ≡ bounds_of game.old.frames }
 {
     if game.memory.version() == 3 {

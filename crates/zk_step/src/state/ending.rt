@@ -1,6 +1,7 @@
 // How an instruction's effect ends.
 
 use zk_tables::arrays::rectangle::Rectangle;
+use zk_term::style::Bleep;
 
 /// How an effect ends, before the next address is known.
 #[derive(Clone, Copy, Drop)]
@@ -72,6 +73,9 @@ pub enum Output {
     Rows(Rectangle),
     /// The status line, which is no printed text: no stream and no window matters to it.
     Status,
+    /// An erasure of the lower window.
+    Erasure,
+    Bleep(Bleep),
 }
 
 /// What an effect does beside its changes of the game state.

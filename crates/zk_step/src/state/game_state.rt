@@ -44,7 +44,8 @@ impl GameState {
         self.streams.close_all();
     }
 
-    /// Puts memory back and leaves the first frame alone (Z-Machine Standards Document 1.1, section 6.1.3).
+    /// Puts memory back and leaves the first frame alone (Z-Machine Standards Document 1.1, section 6.1.3). Text is
+    /// roman then.
     #[tactic(auto, unfolding(crate::proofs::Opened::in_restart))]
     pub(crate) fn restart(&mut self)
         ensures value { self.new ≡ begun_again self.old }
@@ -53,6 +54,7 @@ impl GameState {
         self.memory.restart();
         self.frames.restart();
         self.close_windows();
+        self.windows.set_style(0);
     }
 
     /// The frames and words are no more than there may be.

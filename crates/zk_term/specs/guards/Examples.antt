@@ -1,11 +1,16 @@
 -- Worked examples of this crate's definitions. Their values come from the Unicode Standard and the Z-machine's by hand,
 -- and no definition made them.
-use Rattle.std.specs.Prelude.{◌≡◌, ℕ, List, [], ◌∷◌, ◌++◌, Some, None, replicate, codes}
+use Rattle.std.specs.Prelude.{◌≡◌, ℕ, true, List, [], ◌∷◌, ◌++◌, Some, None, replicate, codes}
 use Rattle.zk_term.specs.declared.lines.InputEnd.TheVariants as over
 use Rattle.zk_term.specs.declared.open_line.LineKind.TheVariants.{Empty, Row, Words, AfterSpace}
+use Rattle.zk_term.specs.declared.style.Bleep.TheVariants.{Low}
+use Rattle.zk_term.specs.declared.style.Style.{Style}
 use Rattle.zk_term.specs.declared.windows.Window.TheVariants.{Lower, Upper}
 use Rattle.zk_term.specs.Characters.{characters_of, line_codes}
 use Rattle.zk_term.specs.Lines.{Heard, heard}
+use Rattle.zk_term.specs.Signals.{screen_text, script_text}
+use Rattle.zk_term.specs.Signals.Signal.{Text, Script, Erase, Beep}
+use Rattle.zk_term.specs.Styles.{roman, style_set}
 use Rattle.zk_term.specs.OpenLines.{kind_after, rest_after_space, rest_of_words}
 use Rattle.zk_term.specs.Wrapping.{wrapped}
 use Rattle.zk_term.specs.Windows.{Windows, first_windows, split, window_selected, cleared, unsplit, forgotten}
@@ -38,6 +43,30 @@ StrayBytes =
     × (characters_of (0xf0 ∷ 0x8f ∷ 0xbf ∷ 0xbf ∷ []) ≡ None ∷ None ∷ None ∷ None ∷ [])
     × (characters_of (0xed ∷ 0xa0 ∷ 0x80 ∷ []) ≡ None ∷ None ∷ None ∷ [])
     × (characters_of (0xf4 ∷ 0x90 ∷ 0x80 ∷ 0x80 ∷ []) ≡ None ∷ None ∷ None ∷ None ∷ [])
+
+-- ---- styles and signals
+
+-- all styles at once
+abbrev pub all_styles : Style
+all_styles = record { reverse = true; bold = true; italic = true; fixed = true }
+
+-- 1 is reverse, 2 bold, 4 italic and 8 a fixed pitch; they are added to what is set, also several at once; 0 is roman
+-- (sections 8.7.1 and 15, `set_text_style`)
+abbrev pub StylesAddUp : Type 0
+StylesAddUp =
+    (style_set 1 roman ≡ record roman { reverse = true })
+    × (style_set 2 roman ≡ record roman { bold = true })
+    × (style_set 4 (record roman { bold = true }) ≡ record roman { bold = true; italic = true })
+    × (style_set 8 roman ≡ record roman { fixed = true })
+    × (style_set 15 roman ≡ all_styles)
+    × (style_set 16 (record roman { italic = true }) ≡ record roman { italic = true })
+    × (style_set 0 all_styles ≡ roman)
+
+-- the text of a screen is its characters in order, whatever their styles, and that of the transcript is its own
+abbrev pub SignalsHaveTexts : Type 0
+SignalsHaveTexts =
+    (screen_text (Text 65 roman ∷ Script 97 ∷ Erase ∷ Text 66 all_styles ∷ Beep Low ∷ []) ≡ codes "AB")
+    × (script_text (Script 97 ∷ Text 65 roman ∷ Script 98 ∷ Erase ∷ []) ≡ codes "ab")
 
 -- ---- codes (section 3.8)
 

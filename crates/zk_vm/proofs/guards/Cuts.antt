@@ -2,7 +2,7 @@
 use Rattle.std.proofs.Common.{◌≡◌, ◌∙◌, ◌-◌, ℕ, suc, List, [], ◌∷◌, ◌++◌, Option, Some, None, refl, ap, arith}
 use Rattle.zk_state.specs.declared.refusal.Limit.{Limit}
 use Rattle.zk_state.specs.declared.refusal.Limit.TheVariants.{Steps}
-use Rattle.zk_step.specs.Routing.{Texts, no_text}
+use Rattle.zk_step.specs.Routing.{Signals, no_signals}
 use Rattle.zk_vm.specs.declared.stop.Stop.{Stop}
 use Rattle.zk_vm.specs.declared.stop.Stop.TheVariants.{Limit as LimitAt}
 use Rattle.zk_vm.specs.declared.waiting.Waiting.{Waiting}
@@ -20,7 +20,7 @@ use Rattle.zk_vm.proofs.Moves.{moved_gets, moved_steps, passed_last, passed_on}
 
 -- what passes a limit stops a machine there, and shows nothing
 passes_stops : (l : Limit) (s : State) (x : Step) → Passes l s x → (verdict_of s x ≡ StopsBy (LimitAt s.pc l))
-    × (text_of s x ≡ no_text)
+    × (text_of s x ≡ no_signals)
 passes_stops l s (GoesTo t text) h = rw h (refl, refl)
 passes_stops l s (Waits t waiting text) h = rw (h.1, h.0) (refl, refl)
 passes_stops l s Quits h = absurd h
@@ -28,10 +28,10 @@ passes_stops l s (Faults f) h = absurd h
 passes_stops l s (Exceeds m) h = rw h (refl, refl)
 
 -- a step that does
-stops_told : (left : Option Texts) (s : State) (l : List Entry) → text_of s (step s) ≡ no_text
+stops_told : (left : Option Signals) (s : State) (l : List Entry) → text_of s (step s) ≡ no_signals
     → address_told left s.pc ++ (told (text_left left s) ++ l) ≡ last_told left s.pc ++ l
 unfolding woven
-stops_told None s l e = ap (λ (t : Texts). At s.pc ∷ told t ++ l) e
+stops_told None s l e = ap (λ (t : Signals). At s.pc ∷ told t ++ l) e
 stops_told (Some t) s l e = refl
 
 step_stops : (s : Session) (n : ℕ) (l : Limit) → Passes l s.state (step s.state)

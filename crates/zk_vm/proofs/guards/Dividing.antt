@@ -5,7 +5,7 @@ use Rattle.std.specs.List.{drop-map}
 use Rattle.std.specs.Prelude.{drop, map, take}
 use Rattle.std.proofs.lemmas.List.{drop-drop, drop-take, take-map, take-take, take-append-drop}
 use Rattle.std.proofs.lemmas.List.Elements.{filter_map-append}
-use Rattle.zk_step.specs.Routing.{Texts}
+use Rattle.zk_step.specs.Routing.{Signals}
 use Rattle.zk_vm.specs.declared.stop.Stop.{Stop}
 use Rattle.zk_vm.specs.declared.waiting.Waiting.{Waiting}
 use Rattle.zk_vm.specs.Answers.{Answer}
@@ -31,7 +31,7 @@ woven_divided (suc n) (x ∷ xs) [] = ap (λ (l : List Entry). x ∷ (take n xs 
     ∙ ap (λ (l : List Entry). x ∷ l) (take-append-drop n xs)
 woven_divided (suc n) (x ∷ xs) (y ∷ ys) = ap (λ (l : List Entry). x ∷ y ∷ l) (woven_divided n xs ys)
 
-told_divided : (n : ℕ) (t : Texts) → told (text_first n t) ++ told (text_later n t) ≡ told t
+told_divided : (n : ℕ) (t : Signals) → told (text_first n t) ++ told (text_later n t) ≡ told t
 told_divided n t =
     rw (
       ← take-map Shown n t.screen,
@@ -89,7 +89,7 @@ stop_divided n s stop t is rest =
 
 part_divided : (silent : Bool) (n : ℕ) (s : Session) (v : Verdict) (t : State)
     → moved s Goes ≡ stepped_to s v t (text_left s.left s.state)
-    → ((left : Option Texts) → moved (record s { left = left }) Goes ≡ stepped_to (record s { left = left }) v t
+    → ((left : Option Signals) → moved (record s { left = left }) Goes ≡ stepped_to (record s { left = left }) v t
     (text_left left s.state)) → Divides s (parted_to silent n s v t (text_left s.left s.state))
 part_divided true n s GoesOn t is also =
     shown_divided n s (stepped_to s GoesOn t (text_left s.left s.state)) refl is
@@ -140,7 +140,7 @@ parts_only_divide s n = let h = divided s n in (h.entries, h.to)
 
 -- ---- two parts
 
-firsts_joined : (n k : ℕ) (t : Texts) → told (text_first n t) ++ told (text_first k (text_later n t)) ≡ told
+firsts_joined : (n k : ℕ) (t : Signals) → told (text_first n t) ++ told (text_first k (text_later n t)) ≡ told
     (text_first (n + k) t)
 firsts_joined n k t =
     rw (
@@ -150,7 +150,7 @@ firsts_joined n k t =
       drop-take n k t.script,
     ) at (told_divided n (text_first (n + k) t))
 
-later_joined : (n k : ℕ) (t : Texts) → text_later k (text_later n t) ≡ text_later (n + k) t
+later_joined : (n k : ℕ) (t : Signals) → text_later k (text_later n t) ≡ text_later (n + k) t
 later_joined n k t = rw (drop-drop k n t.screen, drop-drop k n t.script) refl
 
 part_is : (n k : ℕ) (s : Session) → s.stopped ≡ None → s.waiting ≡ None → s.state.due ≡ []
@@ -165,7 +165,7 @@ record Joins (k : ℕ) (p q : Passed) : Type 0 where
 stays_joined : (k : ℕ) (s : Session) (q : Passed) → moved s (Part k) ≡ q → Joins k (record { entries = []; to = s }) q
 stays_joined k s q is = record { entries = ap (λ (p : Passed). p.entries) is; to = ap (λ (p : Passed). p.to) is }
 
-shown_joined : (n k : ℕ) (s : Session) (text : Texts) → moved (part_shown n s text).to (Part k) ≡ part_shown k
+shown_joined : (n k : ℕ) (s : Session) (text : Signals) → moved (part_shown n s text).to (Part k) ≡ part_shown k
     (part_shown n s text).to (text_later n text) → Joins k (part_shown n s text) (part_shown (n + k) s text)
 shown_joined n k s text is =
     let address = address_told s.left s.state.pc in
@@ -173,12 +173,12 @@ shown_joined n k s text is =
       entries = ap (λ (q : Passed). (address ++ told (text_first n text)) ++ q.entries) is
           ∙ append_assoc address (told (text_first n text)) (told (text_first k (text_later n text)))
           ∙ ap (λ (l : List Entry). address ++ l) (firsts_joined n k text);
-      to = ap (λ (q : Passed). q.to) is ∙ ap (λ (t : Texts). let x : Session = record s { left = Some t } in x)
+      to = ap (λ (q : Passed). q.to) is ∙ ap (λ (t : Signals). let x : Session = record s { left = Some t } in x)
           (later_joined n k text);
     }
 
-parted_joined : (silent : Bool) (n k : ℕ) (s : Session) (v : Verdict) (t : State) (text : Texts)
-    → ((left : Texts) → moved (record s { left = Some left }) (Part k) ≡ parted_to silent k
+parted_joined : (silent : Bool) (n k : ℕ) (s : Session) (v : Verdict) (t : State) (text : Signals)
+    → ((left : Signals) → moved (record s { left = Some left }) (Part k) ≡ parted_to silent k
     (record s { left = Some left }) v t left) → Joins k (parted_to silent n s v t text)
     (parted_to silent (n + k) s v t text)
 parted_joined true n k s v t text also = shown_joined n k s text (also (text_later n text))

@@ -23,7 +23,7 @@ use Rattle.zk_step.specs.Inputs.{character_answered, line_answered, result_answe
 use Rattle.zk_step.specs.Laws.{moved_in, rebounded}
 use Rattle.zk_step.specs.Restarts.{windows_closed}
 use Rattle.zk_step.specs.Resuming.{resumed as back}
-use Rattle.zk_step.specs.Routing.{Texts, no_text}
+use Rattle.zk_step.specs.Routing.{Signals, no_signals}
 use Rattle.zk_step.proofs.Sweep.{answers_see_no_bounds}
 use Rattle.zk_vm.specs.declared.stop.Stop.{Stop}
 use Rattle.zk_vm.specs.declared.stop.Stop.TheVariants.{Limit as LimitAt}
@@ -210,7 +210,7 @@ answered_bounds s w a = bounds_by s w a (answered s w a) refl
 
 goes_bounds : (s : State) (x : Step) (f m : ℕ) → (most_f (state_after s x) ≡ most_f s)
     × (most_w (state_after s x) ≡ most_w s) → most_f s ≤ f → most_w s ≤ m
-    → (t : State) (text : Texts) → x ≡ GoesTo t text → (t.game.frames.most_frames ≤ f) × (t.game.frames.most_words ≤ m)
+    → (t : State) (text : Signals) → x ≡ GoesTo t text → (t.game.frames.most_frames ≤ f) × (t.game.frames.most_words ≤ m)
 goes_bounds s x f m same few short t text e =
     let there : state_after s x ≡ t = ap (state_after s) e in
     let one : most_f t ≡ most_f s = sym (ap most_f there) ∙ same.0 in
@@ -226,27 +226,27 @@ OwnStop s = (stop : Stop) → s.stopped ≡ Some stop → IsNoFrameStop stop
 abbrev passed_in : ℕ → ℕ → Passed → Passed
 passed_in f m p = record { entries = p.entries; to = session_in f m p.to }
 
-to_same : (f m : ℕ) (s : Session) (v : Verdict) (t : State) (text : Texts)
+to_same : (f m : ℕ) (s : Session) (v : Verdict) (t : State) (text : Signals)
     → stepped_to (session_in f m s) v (state_in f m t) text ≡ passed_in f m (stepped_to s v t text)
 to_same f m s GoesOn t text = refl
 to_same f m s (WaitsFor w) t text = refl
 to_same f m s (StopsBy stop) t text = refl
 
-step_free : (s : Session) (v : Verdict) (t : State) (text : Texts) → OwnStop (stepped_to s v t text).to
+step_free : (s : Session) (v : Verdict) (t : State) (text : Signals) → OwnStop (stepped_to s v t text).to
     → IsNoFrameVerdict v
 step_free s GoesOn t text own = tt
 step_free s (WaitsFor w) t text own = tt
 step_free s (StopsBy stop) t text own = own stop refl
 
 -- what is still to come of a text is the same
-left_same : (f m : ℕ) (left : Option Texts) (s : State) → text_of (state_in f m s) (step_in f m (step s))
+left_same : (f m : ℕ) (left : Option Signals) (s : State) → text_of (state_in f m s) (step_in f m (step s))
     ≡ text_of s (step s) → text_left left (state_in f m s) ≡ text_left left s
 left_same f m None s e = ap (text_of (state_in f m s)) (step_same f m s) ∙ e
 left_same f m (Some t) s e = refl
 
 -- so is what is made of a step
 made_same : (f m : ℕ) (s : Session) → most_f s.state ≤ f → most_w s.state ≤ m
-    → IsNoFrameVerdict (verdict_of s.state (step s.state)) → (made : Verdict → State → Texts → Passed)
+    → IsNoFrameVerdict (verdict_of s.state (step s.state)) → (made : Verdict → State → Signals → Passed)
     → made (verdict_of (state_in f m s.state) (step (state_in f m s.state)))
     (state_after (state_in f m s.state) (step (state_in f m s.state))) (text_left s.left (state_in f m s.state))
     ≡ made (verdict_of s.state (step s.state)) (state_in f m (state_after s.state (step s.state)))
@@ -266,13 +266,13 @@ steps_same f m (suc n) s few short own =
     made_same f m s few short free (λ v t text. stepped_to (session_in f m s) v t text)
     ∙ to_same f m s (verdict_of s.state x) (state_after s.state x) (text_left s.left s.state)
 
-parted_free : (n : ℕ) (s : Session) (v : Verdict) (t : State) (text : Texts)
+parted_free : (n : ℕ) (s : Session) (v : Verdict) (t : State) (text : Signals)
     → OwnStop (parted_to false n s v t text).to → IsNoFrameVerdict v
 parted_free n s GoesOn t text own = tt
 parted_free n s (WaitsFor w) t text own = tt
 parted_free n s (StopsBy stop) t text own = own stop refl
 
-parted_same : (f m n : ℕ) (s : Session) (v : Verdict) (t : State) (text : Texts)
+parted_same : (f m n : ℕ) (s : Session) (v : Verdict) (t : State) (text : Signals)
     → parted_to false n (session_in f m s) v (state_in f m t) text ≡ passed_in f m (parted_to false n s v t text)
 parted_same f m n s GoesOn t text = refl
 parted_same f m n s (WaitsFor w) t text = refl
@@ -291,24 +291,24 @@ empty_list : (l : List ℕ) → (length l == 0) ≡ true → l ≡ []
 empty_list [] h = refl
 empty_list (x ∷ l) h = absurd (grind (arith, nat_tests, h))
 
-silent_is : (t : Texts) (b c : Bool) → (length t.screen == 0) ≡ b → (length t.script == 0) ≡ c → (b && c) ≡ true
-    → t ≡ no_text
+silent_is : (t : Signals) (b c : Bool) → (length t.screen == 0) ≡ b → (length t.script == 0) ≡ c → (b && c) ≡ true
+    → t ≡ no_signals
 silent_is t true true e h k = rw (empty_list t.screen e, empty_list t.script h) refl
 silent_is t true false e h k = absurd cc
 silent_is t false c e h k = absurd cc
 
-silent_none : (t : Texts) → is_silent t ≡ true → t ≡ no_text
+silent_none : (t : Signals) → is_silent t ≡ true → t ≡ no_signals
 silent_none t h = silent_is t (length t.screen == 0) (length t.script == 0) refl refl h
 
-within_silent : (r : Result FrameList Refusal) (t : Texts) → t ≡ no_text → text_within r t ≡ no_text
+within_silent : (r : Result FrameList Refusal) (t : Signals) → t ≡ no_signals → text_within r t ≡ no_signals
 within_silent (Ok s) t h = h
 within_silent (Err e) t h = refl
 
-waits_silent : (b : Bool) (t : Texts) → t ≡ no_text → (if b then no_text else t) ≡ no_text
+waits_silent : (b : Bool) (t : Signals) → t ≡ no_signals → (if b then no_signals else t) ≡ no_signals
 waits_silent true t h = refl
 waits_silent false t h = h
 
-text_silent : (s : State) (x : Step) → is_silent (text_shown x) ≡ true → text_of s x ≡ no_text
+text_silent : (s : State) (x : Step) → is_silent (text_shown x) ≡ true → text_of s x ≡ no_signals
 text_silent s (GoesTo t text) h = within_silent (within_bounds t.game.frames) text (silent_none text h)
 text_silent s (Waits t w text) h = waits_silent (is_past_reads s.reads w.wait) text (silent_none text h)
 text_silent s Quits h = refl
@@ -445,7 +445,7 @@ by_same f m (Some stop) y s n few short own = refl
 abbrev SameBounds : State → State → Type 0
 SameBounds s t = (most_f t ≡ most_f s) × (most_w t ≡ most_w s)
 
-to_bounds : (s : Session) (v : Verdict) (t : State) (text : Texts) → SameBounds s.state t
+to_bounds : (s : Session) (v : Verdict) (t : State) (text : Signals) → SameBounds s.state t
     → SameBounds s.state (stepped_to s v t text).to.state
 to_bounds s GoesOn t text h = h
 to_bounds s (WaitsFor w) t text h = h
@@ -456,7 +456,7 @@ steps_bounds zero s = (refl, refl)
 steps_bounds (suc n) s = to_bounds s (verdict_of s.state (step s.state)) (state_after s.state (step s.state))
     (text_left s.left s.state) (step_bounds s.state)
 
-parted_bounds : (silent : Bool) (n : ℕ) (s : Session) (v : Verdict) (t : State) (text : Texts)
+parted_bounds : (silent : Bool) (n : ℕ) (s : Session) (v : Verdict) (t : State) (text : Signals)
     → SameBounds s.state t → SameBounds s.state (parted_to silent n s v t text).to.state
 parted_bounds true n s v t text h = (refl, refl)
 parted_bounds false n s GoesOn t text h = (refl, refl)

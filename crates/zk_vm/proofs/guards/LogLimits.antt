@@ -2,7 +2,7 @@
 use Rattle.std.proofs.Common.{◌≡◌, ◌∙◌, ◌-◌, ◌+◌, ℕ, zero, suc, Bool, true, false, List, [], ◌∷◌, ◌++◌, Option, Some}
 use Rattle.std.proofs.Common.{None, refl, ap, arith}
 use Rattle.zk_state.specs.declared.refusal.Limit.TheVariants.{Steps}
-use Rattle.zk_step.specs.Routing.{Texts}
+use Rattle.zk_step.specs.Routing.{Signals}
 use Rattle.zk_vm.specs.declared.stop.Stop.{Stop}
 use Rattle.zk_vm.specs.declared.stop.Stop.TheVariants.{Limit}
 use Rattle.zk_vm.specs.declared.waiting.Waiting.{Waiting}
@@ -22,7 +22,7 @@ OwnStop s = (stop : Stop) → s.stopped ≡ Some stop → IsNoStepStop stop
 more_passed : ℕ → Passed → Passed
 more_passed k p = record { entries = p.entries; to = with_more_steps k p.to }
 
-to_more : (k : ℕ) (s : Session) (v : Verdict) (t : State) (text : Texts)
+to_more : (k : ℕ) (s : Session) (v : Verdict) (t : State) (text : Signals)
     → stepped_to (with_more_steps k s) v t text ≡ more_passed k (stepped_to s v t text)
 unfolding more_passed
 to_more k s GoesOn t text = refl
@@ -36,7 +36,7 @@ step_more k (suc n) s own = let e : suc n + k ≡ suc (n + k) = omega arith in
     rw e (to_more k s (verdict_of s.state (step s.state)) (state_after s.state (step s.state))
     (text_left s.left s.state))
 
-parted_more : (silent : Bool) (k i : ℕ) (s : Session) (v : Verdict) (t : State) (text : Texts)
+parted_more : (silent : Bool) (k i : ℕ) (s : Session) (v : Verdict) (t : State) (text : Signals)
     → parted_to silent i (with_more_steps k s) v t text ≡ more_passed k (parted_to silent i s v t text)
 unfolding more_passed
 parted_more true k i s v t text = refl

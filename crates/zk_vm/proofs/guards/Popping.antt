@@ -12,7 +12,7 @@ use Rattle.zk_step.specs.declared.state.ending.Event.{Event}
 use Rattle.zk_step.specs.declared.state.game_state.View.{View}
 use Rattle.zk_step.specs.declared.state.game_state.View.TheVariants as view
 use Rattle.zk_step.specs.declared.state.game_state.GameState.{GameState}
-use Rattle.zk_step.specs.Routing.{Texts, no_text}
+use Rattle.zk_step.specs.Routing.{Signals, no_signals}
 use Rattle.zk_step.specs.Variables.{named_read, operand_read, operands_read, variable_read, with_frames}
 use Rattle.zk_step.proofs.FixedParts.{Leaves, gives, fails, leaves_then, leaves_after, leaves_if, value_left}
 use Rattle.zk_vm.specs.Step.{is_read, view_before}
@@ -89,9 +89,9 @@ viewed_pops w = viewed_pops_by w.view w
 before_pops : (event : Event) (w : GameState) → Leaves (PopsTo w) (view_before event w)
 before_pops event w = go (is_read event)
   where
-    go : (b : Bool) → Leaves (PopsTo w) (if b then viewed w else Ok (w, no_text))
+    go : (b : Bool) → Leaves (PopsTo w) (if b then viewed w else Ok (w, no_signals))
     go true = viewed_pops w
     go false = gives (pops_none w)
 
-pub shown_pops : (x : Event) (w v : GameState) (t : Texts) → view_before x w ≡ Ok (v, t) → Pops w v
+pub shown_pops : (x : Event) (w v : GameState) (t : Signals) → view_before x w ≡ Ok (v, t) → Pops w v
 shown_pops x w v t h = value_left (view_before x w) (v, t) (before_pops x w) h

@@ -18,7 +18,7 @@ use Rattle.zk_step.specs.declared.state.game_state.View.{View}
 use Rattle.zk_step.specs.Inputs.{result_answered}
 use Rattle.zk_step.specs.Instructions.{carried_out}
 use Rattle.zk_step.specs.Resuming.{resumed}
-use Rattle.zk_step.specs.Routing.{Texts, no_text}
+use Rattle.zk_step.specs.Routing.{Signals, no_signals}
 use Rattle.zk_vm.specs.declared.limits.Limits.{Limits}
 use Rattle.zk_vm.specs.declared.waiting.Waiting.{Waiting}
 use Rattle.zk_vm.specs.Answers.{Answer, answered}
@@ -48,10 +48,10 @@ record WaitsSo (s t : State) : Type 0 where
 
 -- so does each that waits
 abbrev WaitsOn : State → Step → Type 0
-WaitsOn s x = (t : State) (w : Waiting) (text : Texts) → x ≡ Waits t w text → WaitsSo s t
+WaitsOn s x = (t : State) (w : Waiting) (text : Signals) → x ≡ Waits t w text → WaitsSo s t
 
 goes_no_wait : (s : State) {A : Type 0} (next : A → State) (r : Result A Fault)
-    → WaitsOn s (step_by (λ x. Goes (next x) no_text) r)
+    → WaitsOn s (step_by (λ x. Goes (next x) no_signals) r)
 goes_no_wait s {A} next r = step_all (WaitsOn s) _ r (λ x e t w text h. absurd cc) (λ f e t w text h. absurd cc)
 
 back_no_wait : (s : State) (i : Instr) (v : GameState) (q : Option (MemoryMap × FrameList × ℕ × List WholeState))
@@ -65,11 +65,11 @@ waits_so s i x v pops =
     step_all (WaitsOn s) _ (view_before x v) (λ r e t w text h. so r e t (waits_same _ t _ w r.1 text h))
     (λ f e t w text h. absurd cc)
   where
-    so : (r : GameState × Texts) → view_before x v ≡ Ok r → (t : State) → record s { game = r.0 } ≡ t → WaitsSo s t
+    so : (r : GameState × Signals) → view_before x v ≡ Ok r → (t : State) → record s { game = r.0 } ≡ t → WaitsSo s t
     so r e t same =
         record { game = r.0; pops = pops_twice s.game v r.0 pops (shown_pops x v r.0 r.1 e); same = sym same }
 
-asked_so : (s : State) (i : Instr) (v : GameState) (shown : Texts) (x : Request)
+asked_so : (s : State) (i : Instr) (v : GameState) (shown : Signals) (x : Request)
     → carried_out s.game i ≡ Ok (v, (Asks x, shown)) → WaitsOn s (asked s i v x)
 asked_so s i v shown (request.Answer event) c =
     let so = asks s.game i v (request.Answer event) shown c in
@@ -78,7 +78,7 @@ asked_so s i v shown request.SaveUndo c = goes_no_wait s _ (result_answered v i 
 asked_so s i v shown request.RestoreUndo c = back_no_wait s i v (gone_back s.undo v.memory v.frames)
 asked_so s i v shown request.Quit c = λ t w text h. absurd cc
 
-led_so : (s : State) (i : Instr) (v : GameState) (shown : Texts) (n : Next)
+led_so : (s : State) (i : Instr) (v : GameState) (shown : Signals) (n : Next)
     → carried_out s.game i ≡ Ok (v, (n, shown)) → WaitsOn s (led_to s i v shown n)
 led_so s i v shown (At p) c = λ t w text h. absurd cc
 led_so s i v shown (Asks x) c = asked_so s i v shown x c
@@ -87,7 +87,7 @@ settled_so : (s : State) (i : Instr) → WaitsOn s (settled s i (carried_out s.g
 settled_so s i =
     step_all (WaitsOn s) _ (carried_out s.game i) (λ r e. led_so s i r.0 r.1.1 r.1.0 e) (λ f e t w text h. absurd cc)
 
-step_waits : (s t : State) (w : Waiting) (text : Texts) → step s ≡ Waits t w text → WaitsSo s t
+step_waits : (s t : State) (w : Waiting) (text : Signals) → step s ≡ Waits t w text → WaitsSo s t
 unfolding step
 step_waits s t w text = step_all (WaitsOn s) _ (instr_at s.game.memory s.pc) (λ i e. settled_so s i)
     (λ f e t w text h. absurd cc) t w text
@@ -115,7 +115,7 @@ may x w s e h = subst (λ (y : Option Waiting). MayAnswer y s) e h
 pair : {a b c d : ℕ} → a ≡ b → c ≡ d → ◌≡◌ {A = ℕ × ℕ} (a, c) (b, d)
 pair e k = cc
 
-goes_keeps : (s : Session) (t : State) (text : Texts) (u : FrameList) → KeepsLimits s → s.waiting ≡ None
+goes_keeps : (s : Session) (t : State) (text : Signals) (u : FrameList) → KeepsLimits s → s.waiting ≡ None
     → s.state.steps < s.limits.steps → step s.state ≡ Goes t text → within_bounds t.game.frames ≡ Ok u
     → KeepsLimits (record s { state = t; left = None })
 goes_keeps s t text u k alone few e inside =
@@ -128,7 +128,7 @@ goes_keeps s t text u k alone few e inside =
       waits = free s.waiting (record s { state = t; left = None }) alone;
     }
 
-waits_keeps : (s : Session) (t : State) (w : Waiting) (text : Texts) → KeepsLimits s
+waits_keeps : (s : Session) (t : State) (w : Waiting) (text : Signals) → KeepsLimits s
     → s.state.steps < s.limits.steps → step s.state ≡ Waits t w text → is_past_reads s.state.reads w.wait ≡ false
     → KeepsLimits (record s { state = t; waiting = Some w; left = None })
 waits_keeps s t w text k few e fits =
@@ -152,7 +152,7 @@ waits_keeps s t w text k few e fits =
     } in
     subst (λ (u : State). KeepsLimits (record s { state = u; waiting = Some w; left = None })) (sym so.same) here
 
-gets_keeps : (s : Session) (w : Waiting) (a : Answer) (t : State) (text : Texts) (u : FrameList) → KeepsLimits s
+gets_keeps : (s : Session) (w : Waiting) (a : Answer) (t : State) (text : Signals) (u : FrameList) → KeepsLimits s
     → s.waiting ≡ Some w → answered s.state w a ≡ Goes t text → within_bounds t.game.frames ≡ Ok u
     → KeepsLimits (record s { state = t; waiting = None })
 unfolding bounds_of
@@ -180,7 +180,7 @@ gets_keeps s w a t text u k there e inside =
       waits = tt;
     }
 
-may_still : (x : Option Waiting) (s : Session) (left : Option Texts) → MayAnswer x s
+may_still : (x : Option Waiting) (s : Session) (left : Option Signals) → MayAnswer x s
     → MayAnswer x (record s { left = left })
 may_still None s left h = tt
 may_still (Some w) s left h = h

@@ -6,7 +6,7 @@ ghost use Rattle.std.specs.List.{AllByRecursion};
 ghost use Rattle.std.specs.Prelude.{length, option_copied};
 ghost use Rattle.zk_code.specs.Reading.{instr_at};
 ghost use Rattle.zk_step.specs.Halves.{IsHalf, ShowsSome, rest_text, text_due};
-ghost use Rattle.zk_step.specs.Routing.{Texts};
+ghost use Rattle.zk_step.specs.Routing.{Signals};
 ghost use Rattle.zk_vm.specs.Answers.{undone};
 ghost use Rattle.zk_text.specs.Extra.{is_input_code};
 ghost use Rattle.zk_vm.specs.Answers.Answer.{Typed, GameKept, File};

@@ -4,7 +4,7 @@ ghost use Rattle.std.specs.Prelude.{◌≡◌, ◌↔◌, ◌≤◌, ◌<◌, �
 ghost use Rattle.std.specs.Prelude.{Ok, Err, IfErr, IfOk, IfSome, IsTrue, OnOk, OnSome, OnErr, MatchResult};
 ghost use Rattle.zk_state.specs.Frames.{IsBounded};
 ghost use Rattle.zk_code.specs.Reading.{instr_at};
-ghost use Rattle.zk_step.specs.Routing.{no_text};
+ghost use Rattle.zk_step.specs.Routing.{no_signals};
 ghost use Rattle.zk_vm.specs.Going.{IsAhead, Settles};
 ghost use Rattle.zk_vm.specs.Halts.{IsKeeping, IsStep, KeepsState, event_waited};
 ghost use Rattle.zk_vm.specs.Laws.{IsWithin};
@@ -220,7 +220,7 @@ impl Machine {
         requires runs { self.old.stopped ≡ None }
         requires silent { self.old.state.due ≡ [] }
         ensures step { IsStep self.old self.new result
-            (λ t. S.shows screen.old screen.new t.screen t.script) }
+            (λ t. S.shows screen.old screen.new t) }
         ensures counted { OnOk result (self.new.state.steps ≡ self.old.state.steps + 1) }
         ensures silent { OnOk result (self.new.state.due ≡ self.old.state.due) }
         ensures reads { self.new.state.reads ≡ self.old.state.reads }
@@ -248,7 +248,7 @@ impl Machine {
         requires fetched { instr_at self.old.state.game.memory self.old.state.pc ≡ Ok i }
         requires other { KeepsState i → ⊥ }
         ensures step { IsStep self.old self.new result
-            (λ t. S.shows screen.old screen.new t.screen t.script) }
+            (λ t. S.shows screen.old screen.new t) }
         ensures counted { OnOk result (self.new.state.steps ≡ self.old.state.steps + 1) }
         ensures silent { OnOk result (self.new.state.due ≡ self.old.state.due) }
         ensures reads { self.new.state.reads ≡ self.old.state.reads }
@@ -284,8 +284,7 @@ impl Machine {
         ensures step { Settles self.old self.new result
             (asked self.old.state i self.old.state.game request) }
         ensures text { S.shows screen.old screen.new
-            (text_of self.old.state (asked self.old.state i self.old.state.game request)).screen
-            (text_of self.old.state (asked self.old.state i self.old.state.game request)).script }
+            (text_of self.old.state (asked self.old.state i self.old.state.game request)) }
         ensures counted { OnOk result (self.new.state.steps ≡ self.old.state.steps + 1) }
         ensures silent { OnOk result (self.new.state.due ≡ self.old.state.due) }
         ensures reads { self.new.state.reads ≡ self.old.state.reads }
@@ -311,7 +310,7 @@ impl Machine {
         requires inside { self.old.state.pc < i.now.next }
         requires fetched { instr_at self.old.state.game.memory self.old.state.pc ≡ Ok i.now }
         requires keeps { KeepsState i.now }
-        ensures step { IfOk result (λ went. IsStep self.old self.new went (λ t. t ≡ no_text)) }
+        ensures step { IfOk result (λ went. IsStep self.old self.new went (λ t. t ≡ no_signals)) }
         ensures short { OnErr result ((self.new ≡ self.old) × IsKeeping self.old.state) }
         ensures counted { IfOk result (λ went. OnOk went (self.new.state.steps ≡ self.old.state.steps + 1)) }
         ensures silent { IfOk result (λ went. OnOk went (self.new.state.due ≡ self.old.state.due)) }
@@ -405,9 +404,7 @@ impl Machine {
             (asked self.old.state instruction self.old.state.game (Request.Answer event)) }
         ensures text { S.shows screen.old screen.new (text_of self.old.state
             (asked self.old.state instruction self.old.state.game
-            (Request.Answer event))).screen (text_of self.old.state
-            (asked self.old.state instruction self.old.state.game
-            (Request.Answer event))).script }
+            (Request.Answer event))) }
         ensures waits { OnOk result ⊥ }
         ensures reads { self.new.state.reads ≡ self.old.state.reads }
         ensures more { self.old.state.steps ≤ self.new.state.steps }
@@ -442,9 +439,7 @@ impl Machine {
             (asked self.old.state instruction self.old.state.game (Request.Answer event)) }
         ensures text { S.shows screen.old screen.new (text_of self.old.state
             (asked self.old.state instruction self.old.state.game
-            (Request.Answer event))).screen (text_of self.old.state
-            (asked self.old.state instruction self.old.state.game
-            (Request.Answer event))).script }
+            (Request.Answer event))) }
         ensures waits { OnOk result ⊥ }
         ensures reads { self.new.state.reads ≡ self.old.state.reads }
         ensures more { self.old.state.steps ≤ self.new.state.steps }

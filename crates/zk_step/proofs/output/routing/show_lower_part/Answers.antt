@@ -6,7 +6,7 @@ use Rattle.zk_step.proofs.output.routing.show_lower_part.Goals as goal
 
 pub returns-then-not-more-clause-text : goal.returns-then-not-more-clause-text
 returns-then-not-more-clause-text g c =
-    rw (c.screen.ensures, c.is_script_on.ensures) at
+    rw c.selected-on.ensures at
     (shows_some g.S.Screen.shows (own_characters c.args.game.now.memory) _ c.args.screen.now
     c.show_part-more.new.screen c.args.half.now.at_line_start c.show_part-more.new.at_line_start
     (rest_units c.args.game.now.memory c.args.half.now.rest)
@@ -16,7 +16,7 @@ returns-then-not-more-clause-text g c =
 pub returns-else-not-more-clause-on : goal.returns-else-not-more-clause-on
 returns-else-not-more-clause-on g c = λ more.
     let text = rw more at c.show_part-more.ensures.text in
-    let line = rw c.screen.ensures at (line_on g.S.Screen.shows (own_characters c.args.game.now.memory) _
+    let line = rw c.selected-on.ensures at (line_on g.S.Screen.shows (own_characters c.args.game.now.memory) _
     c.args.screen.now c.show_part-more.new.screen c.args.half.now.at_line_start
     c.show_part-more.new.at_line_start (rest_units c.args.game.now.memory c.args.half.now.rest)
     (rest_units c.args.game.now.memory c.show_part-more.new.rest) text) in
@@ -24,7 +24,7 @@ returns-else-not-more-clause-on g c = λ more.
 
 pub returns-else-not-more-clause-text : goal.returns-else-not-more-clause-text
 returns-else-not-more-clause-text g c =
-    rw (c.screen.ensures, c.is_script_on.ensures) at
+    rw c.selected-on.ensures at
     (shows_some g.S.Screen.shows (own_characters c.args.game.now.memory) _ c.args.screen.now
     c.show_part-more.new.screen c.args.half.now.at_line_start c.show_part-more.new.at_line_start
     (rest_units c.args.game.now.memory c.args.half.now.rest)

@@ -1,7 +1,7 @@
 use Rattle.std.proofs.Common.{◌≡◌, ◌<◌, [], refl, rules}
 use Rattle.zk_step.specs.Routing.{fresh_line}
 use Rattle.zk_step.specs.View.{rows_shown, lines_shown}
-use Rattle.zk_step.proofs.Viewing.{some_lines, some_rows}
+use Rattle.zk_step.proofs.Viewing.{on_screen-append, some_lines, some_rows}
 use Rattle.zk_step.proofs.output.view.show_rows_alone.Goals as goal
 
 pub returns-then-height-eq0-clause-state : goal.returns-then-height-eq0-clause-state
@@ -34,5 +34,5 @@ returns-clause-text g c =
       c.requires,
       some_lines w (rows_shown w.windows 1 w.windows.height)
           (some_rows w.windows w.windows.height 1 some),
-    ) (g.met.S.Screen.twice _ _ _ (fresh_line w.at_line_start)
-    (rows_shown w.windows 1 w.windows.height) [] [] c.start_line.ensures c.show_rows.ensures)
+      on_screen-append (fresh_line w.at_line_start) (rows_shown w.windows 1 w.windows.height),
+    ) (g.met.S.Screen.twice _ _ _ _ _ c.start_line.ensures c.show_rows.ensures)

@@ -4,7 +4,7 @@ use Rattle.zk_step.specs.declared.state.ending.Next.TheVariants.{Asks}
 use Rattle.zk_step.specs.declared.state.ending.Request.TheVariants.{SaveUndo}
 use Rattle.zk_step.specs.Instructions.{carried_out}
 use Rattle.zk_step.specs.Limited.{limited_move, text_in}
-use Rattle.zk_step.specs.Routing.{Texts, no_text}
+use Rattle.zk_step.specs.Routing.{Signals, no_signals}
 use Rattle.zk_vm.specs.Sessions.{Session}
 use Rattle.zk_vm.proofs.Advancing.{carried_fixed, is_keeping, kept_settled, keeps_asks, keeps_refused, sound_back}
 use Rattle.zk_vm.proofs.Advancing.{sound_moved, stands_back, stepped_err}
@@ -16,7 +16,7 @@ invariant_of-self c =
     let free = rw (← c.self.view_is) at c.requires.free in
     let told = keeps_asks c.self.inside.game c.read_operands.new.game c.args.i.now c.in-Ok.values c.requires.keeps
     c.in-Ok.ensures.value in
-    sound_moved c.self.inside _ c.args.i.now (Asks SaveUndo) no_text c.self.invariant runs refl free
+    sound_moved c.self.inside _ c.args.i.now (Asks SaveUndo) no_signals c.self.invariant runs refl free
     c.self.invariant.steps refl refl refl told c.in-Ok.ensures.bounds
 
 pub returns-in-Err-clause-step : goal.returns-in-Err-clause-step
@@ -25,8 +25,8 @@ returns-in-Err-clause-step c =
     let fetched = rw (← c.self.view_is) at c.requires.fetched in
     let refused = keeps_refused c.self.inside.game c.args.i.now c.in-Err.fault c.in-Err.ensures.value in
     let shows : Unit {0} → Unit {0} → List ℕ → List ℕ
-    → Type 0 = λ a b s t. let text : Texts = record { screen = s; script = t } in text ≡ no_text in
-    let silent : text_in (limited_move (carried_out c.self.inside.game c.args.i.now)) ≡ no_text = ap text_in refused in
+    → Type 0 = λ a b s t. let text : Signals = record { screen = s; script = t } in text ≡ no_signals in
+    let silent : text_in (limited_move (carried_out c.self.inside.game c.args.i.now)) ≡ no_signals = ap text_in refused in
     rw (← c.self.view_is) (stepped_err shows tt tt c.self.inside _ c.args.i.now (Fault c.in-Err.fault) _ fetched
     refused c.halt.ensures.value free silent)
 
@@ -44,7 +44,7 @@ invariant_of-self-in-Err-save_undo c =
     let there : c.self-2.inside.game ≡ c.read_operands.new.game = ap (λ (s : Session). s.state.game) same in
     let back : c.give_back.new.game ≡ c.self.inside.game = c.give_back.ensures.value c.self.inside.game
     c.is_bounded.ensures (rw there c.in-Ok.ensures.value) in
-    let fixed = carried_fixed c.self.inside.game c.args.i.now c.read_operands.new.game (Asks SaveUndo) no_text
+    let fixed = carried_fixed c.self.inside.game c.args.i.now c.read_operands.new.game (Asks SaveUndo) no_signals
     (keeps_asks c.self.inside.game c.read_operands.new.game c.args.i.now c.in-Ok.values c.requires.keeps
     c.in-Ok.ensures.value) in
     sound_back c.self-2.inside c.give_back.new.game c.self-2.invariant
@@ -55,7 +55,7 @@ pub returns-in-Ok-save_undo-clause-step : goal.returns-in-Ok-save_undo-clause-st
 returns-in-Ok-save_undo-clause-step c =
     let fetched = rw (← c.self.view_is) at c.requires.fetched in
     rw (← c.self.view_is) (kept_settled c.self.inside c.save_undo.new.self c.args.i.now c.read_operands.new.game
-    c.in-Ok.values c.in-Ok-save_undo.went (λ t. t ≡ no_text) fetched c.requires.keeps c.in-Ok.ensures.value
+    c.in-Ok.values c.in-Ok-save_undo.went (λ t. t ≡ no_signals) fetched c.requires.keeps c.in-Ok.ensures.value
     c.in-Ok-save_undo.ensures.step refl)
 
 pub returns-in-Err-save_undo-clause-short : goal.returns-in-Err-save_undo-clause-short
@@ -65,7 +65,7 @@ returns-in-Err-save_undo-clause-short c =
     let there : c.self-2.inside.game ≡ c.read_operands.new.game = ap (λ (s : Session). s.state.game) same in
     let back : c.give_back.new.game ≡ c.self.inside.game = c.give_back.ensures.value c.self.inside.game
     c.is_bounded.ensures (rw there c.in-Ok.ensures.value) in
-    let fixed = carried_fixed c.self.inside.game c.args.i.now c.read_operands.new.game (Asks SaveUndo) no_text
+    let fixed = carried_fixed c.self.inside.game c.args.i.now c.read_operands.new.game (Asks SaveUndo) no_signals
     (keeps_asks c.self.inside.game c.read_operands.new.game c.args.i.now c.in-Ok.values c.requires.keeps
     c.in-Ok.ensures.value) in
     let keeping = is_keeping c.self.inside c.args.i.now c.read_operands.new.game c.in-Ok.values fetched
