@@ -80,6 +80,7 @@ none_left (Some t) window w = refl
 
 pub all_shown : {S : Type 0} (shows : S → S → Signals → Type 0) (a b : S) (whole : Signals)
     (t : Option OpenTable) (window : Window) (w : GameState) (on : Bool) (rest : Rest) → on ≡ false
-    → ShowsSome shows a b whole (rest_text_by t window w (rest_on w.memory on rest)) → ShowsSome shows a b whole no_signals
+    → ShowsSome shows a b whole (rest_text_by t window w (rest_on w.memory on rest))
+    → ShowsSome shows a b whole no_signals
 all_shown {S} shows a b whole t window w true rest off h = absurd cc
 all_shown {S} shows a b whole t window w false rest off h = rw (none_left t window w) at h

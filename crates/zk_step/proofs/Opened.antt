@@ -99,7 +99,8 @@ in_push_effect = tt
 -- the definitions that are opened in output examples
 unfoldable pub output_examples : ⊤
 unfolding opened counted newest_of tables_below stream_selected byte_at byte_put word_put first_windows routed
-    unit_stored stored_all ends_line script_is_on style_shown streamed_all upper_printed units_of characters_of bytes_put words_from
+    unit_stored stored_all ends_line script_is_on style_shown streamed_all upper_printed units_of characters_of
+    bytes_put words_from
     unicode_table words_at_table own_characters character code_from code_of shown shown_all standard_letters
     standard_characters split window_selected printed header_of word_at table_effect window_effect scanned row_at
     rows_from rows_of places bytes_read cursor_set cleared unsplit

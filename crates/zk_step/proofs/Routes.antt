@@ -11,7 +11,8 @@ use Rattle.zk_step.specs.Streams.{newest_of}
 
 -- what is printed is routed by the tables that are open, but for status lines, erasures and bleeps
 pub text_is_routed : (m : MemoryMap) (w : GameState) (o : Output) → (o ≡ Nothing → ⊥) → (o ≡ Status → ⊥)
-    → (o ≡ Erasure → ⊥) → ((b : sound.Bleep) → o ≡ Bleep b → ⊥) → routed m w o ≡ routed_by (newest_of w.streams.tables) m w o
+    → (o ≡ Erasure → ⊥) → ((b : sound.Bleep) → o ≡ Bleep b → ⊥) → routed m w o ≡ routed_by (newest_of
+    w.streams.tables) m w o
 unfolding routed
 text_is_routed m w Nothing h k e s = absurd (h refl)
 text_is_routed m w Status h k e s = absurd (k refl)

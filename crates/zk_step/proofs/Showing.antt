@@ -35,7 +35,8 @@ pub shown_text : (r : Result (GameState × (Next × Signals)) Refusal) (w : Game
 shown_text r w n t h = ap text_in h
 
 -- one that is refused shows nothing
-pub refused_text : (r : Result (GameState × (Next × Signals)) Refusal) (e : Refusal) → r ≡ Err e → text_in r ≡ no_signals
+pub refused_text : (r : Result (GameState × (Next × Signals)) Refusal) (e : Refusal) → r ≡ Err e
+    → text_in r ≡ no_signals
 refused_text r e h = ap text_in h
 
 -- memory stands as the instruction found it, or nothing is printed

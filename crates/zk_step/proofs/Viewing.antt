@@ -1,6 +1,6 @@
 -- The rows of the upper window and the status line, line by line.
-use Rattle.std.proofs.Common.{◌≡◌, ◌∙◌, ◌<◌, ℕ, zero, suc, ◌+◌, true, false, List, [], ◌∷◌, ◌++◌, length, take, get_or, refl}
-use Rattle.std.proofs.Common.{sym, ap, subst, arith, append_assoc, append-nil}
+use Rattle.std.proofs.Common.{◌≡◌, ◌∙◌, ◌<◌, ℕ, zero, suc, ◌+◌, true, false, List, [], ◌∷◌, ◌++◌, length, take, get_or}
+use Rattle.std.proofs.Common.{refl, sym, ap, subst, arith, append_assoc, append-nil}
 use Rattle.std.proofs.lemmas.List.{map-append, take_more}
 use Rattle.zk_term.specs.Signals.Signal.{Text}
 use Rattle.zk_term.specs.Styles.{roman}
@@ -22,7 +22,8 @@ streamed_alone (c ∷ cs) = ap (λ (l : Signals). Text c roman ∷ l) (streamed_
 -- one more character
 pub next_on_screen : {S : Type 0} (shows : S → S → Signals → Type 0)
     (twice : (a b c : S) (s t : Signals) → shows a b s → shows b c t → shows a c (s ++ t))
-    (old now new : S) (cs : List ℕ) (i c : ℕ) → i < length cs → c ≡ get_or cs i c → shows old now (on_screen (take i cs))
+    (old now new : S) (cs : List ℕ) (i c : ℕ) → i < length cs → c ≡ get_or cs i c
+    → shows old now (on_screen (take i cs))
     → shows now new (on_screen (c ∷ [])) → shows old new (on_screen (take (i + 1) cs))
 next_on_screen {S} shows twice old now new cs i c lt is h one =
     let more : on_screen (take (i + 1) cs) ≡ on_screen (take i cs) ++ on_screen (c ∷ []) =

@@ -12,7 +12,8 @@ use Rattle.zk_step.specs.Limited.{limited_next}
 use Rattle.zk_step.specs.Routing.{Signals, no_signals, routed, text_routed}
 
 -- an instruction is finished after its route
-abbrev pub finished_after : Result (GameState × Signals) Fault → Instr → List ℕ → Ending → Result (GameState × Next) Fault
+abbrev pub finished_after : Result (GameState × Signals) Fault → Instr → List ℕ → Ending
+    → Result (GameState × Next) Fault
 finished_after r i vs ending = r >>= λ x. finished x.0 i vs ending
 
 -- a route has led to a game state, and where it shows something, nothing can refuse the instruction any more

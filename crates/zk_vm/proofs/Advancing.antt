@@ -23,7 +23,7 @@ use Rattle.zk_step.specs.Inputs.{result_answered}
 use Rattle.zk_step.specs.Effects.{effect_of}
 use Rattle.zk_step.specs.Finish.{finished}
 use Rattle.zk_step.specs.Instructions.{carried_out}
-use Rattle.zk_step.specs.Laws.{fixed_parts}
+use Rattle.zk_step.specs.Laws.{fixed_parts, AsksBy}
 use Rattle.zk_step.specs.Limited.{kept, limited_move, text_in}
 use Rattle.zk_step.specs.Routing.{Signals, no_signals, routed}
 use Rattle.zk_step.specs.Saving.{saving}
@@ -55,7 +55,6 @@ use Rattle.zk_vm.proofs.OneStep.{step_all}
 use Rattle.zk_vm.proofs.Asking.{asks}
 use Rattle.zk_step.proofs.Operands.{operands_memory}
 use Rattle.zk_step.proofs.WithinBounds.{move_is}
-use Rattle.zk_step.specs.Laws.{AsksBy}
 use Rattle.zk_step.proofs.SameStory.{same_version}
 use Rattle.zk_vm.proofs.Sounds.{running, while_running, same_most, sound_now, story_stays}
 
@@ -183,7 +182,7 @@ stepped_asked {S} shows twice a b c m new i w x t answer h told quiet first sett
       tells = settles.tells;
       left = left_moved (seen m) new w (states_in w.memory.file m.undo)
           (asked (state_seen (record m { game = w })) i w x) settles.put;
-      shown = twice a b c [] _ [] _ none rest;
+      shown = twice a b c [] _ none rest;
     }))
 
 -- ---- an instruction that keeps a state

@@ -218,7 +218,8 @@ IsNoFrameVerdict _ = Unit {0}
 
 -- what becomes of a step, with other bounds: the same, and the same text
 pub verdict_same : (f m : ℕ) (s : State) (x : Step)
-    → ((t : State) (text : Signals) → x ≡ Goes t text → (t.game.frames.most_frames ≤ f) × (t.game.frames.most_words ≤ m))
+    → ((t : State) (text : Signals) → x ≡ Goes t text → (t.game.frames.most_frames ≤ f)
+    × (t.game.frames.most_words ≤ m))
     → IsNoFrameVerdict (verdict_of s x)
     → (verdict_of (state_in f m s) (step_in f m x) ≡ verdict_of s x)
     × (text_of (state_in f m s) (step_in f m x) ≡ text_of s x)

@@ -21,8 +21,9 @@ use Rattle.zk_vm.specs.Answers.{Answer}
 use Rattle.zk_vm.specs.Answers.Answer.{Typed, GameKept, File}
 use Rattle.zk_vm.specs.Halts.{IsLeftAs, event_waited}
 use Rattle.zk_vm.specs.Log.{Entry, IsLeftIn, IsLog, address_in, addresses, answer_in, answers_in, heard_by, read_in}
-use Rattle.zk_vm.specs.Log.{reads_in, scripted, scripted_in, shown, shown_in, stop_told}
-use Rattle.zk_vm.specs.Log.Entry.{At, Shown, Scripted, Read, Offered, Asked, Stopped}
+use Rattle.zk_vm.specs.Log.{reads_in, scripted, shown, stop_told, signals, signal_in}
+use Rattle.zk_term.specs.Signals.{script_in, text_in}
+use Rattle.zk_vm.specs.Log.Entry.{At, Shown, Read, Offered, Asked, Stopped}
 use Rattle.zk_vm.specs.Logged.{Ends, EndsBy, IsLeftFor, IsOfSlot, IsOver, LacksRoom, LacksState, Plays, Ran, RunEnds}
 use Rattle.zk_vm.specs.Logged.{RunsOn, Served, Serves, SlotDid, TookOf, Turns, WasNoted, Wrote, WroteFirst}
 use Rattle.zk_vm.specs.Logged.EndsBy.{Itself, NoLine, NoMemory, Unwritten}
@@ -34,6 +35,7 @@ use Rattle.zk_vm.proofs.Logs.{given_free, given_logged, log_left, logs_join, no_
 use Rattle.zk_vm.proofs.LogSteps.{waits_so}
 use Rattle.zk_vm.proofs.Playing.{heard_on, heard_whole, no_end}
 use Rattle.zk_vm.proofs.RunningOn.{IsFinished, IsFresh, both_show, known_failed, never_cut_off}
+use Rattle.zk_step.specs.Routing.{Signals}
 
 -- ---- a run on two targets
 
@@ -42,11 +44,11 @@ left_as t u None free left = left
 left_as t u (Some stop) free left = (left.0, left.1 ∙ sym free, left.2)
 
 -- on targets that bytes wait for, up to where all is given out
-wrote_on : (a b c : Targets) (l : List Entry) → IsFresh a → IsFinished c → Written a b (signals l)
+wrote_on : (a b c : Targets) (l : List Entry) → IsFresh a → IsFinished c → Written a b (shown l) (scripted l)
     → Written b c [] [] → Wrote (record { screen = a.screen; script = a.script })
     (record { screen = c.screen; script = c.script }) c.failed l
 wrote_on a b c l fresh done first rest =
-    let both = both_show a b c (record { screen = shown l; script = scripted l }) fresh done first rest in
+    let both = both_show a b c (signals l) fresh done first rest in
     record { screen = both.0; script = both.1 }
 
 -- how a run ends whose screen has not failed
@@ -66,11 +68,11 @@ pub ran_whole : {S : Type 0} (shows : S → S → Signals → Type 0) (full fail
     (Noted : List ℕ → Type 0) (x y : S) (bound parts : ℕ) (old new : Session) (answer : Result Event Stop)
     (a b c : Targets) (r : Ran shows full failed Noted x y bound parts old new (Err answer))
     → IfErr answer (λ stop. new.stopped ≡ Some stop) → (failed y ≡ true → b.failed ≡ true)
-    → Written a b (signals r.log) → Written b c [] [] → IsFresh a → IsFinished c → c.failed ≡ false
+    → Written a b (shown r.log) (scripted r.log) → Written b c [] [] → IsFresh a → IsFinished c → c.failed ≡ false
     → RunsOn (Wrote (record { screen = a.screen; script = a.script })
     (record { screen = c.screen; script = c.script }) c.either) Noted old new answer c.either
 ran_whole shows full failed Noted x y bound parts old new answer a b c r stops broken first rest fresh done sound =
-    let known = known_failed a b c (record { screen = shown r.log; script = scripted r.log }) fresh first rest in
+    let known = known_failed a b c (signals r.log) fresh first rest in
     let either : c.either ≡ false = sym known ∙ sound in
     record {
       log = r.log;
@@ -91,13 +93,13 @@ ran_whole shows full failed Noted x y bound parts old new answer a b c r stops b
 pub ran_part : {S : Type 0} (shows : S → S → Signals → Type 0) (full failed : S → Bool)
     (Noted : List ℕ → Type 0) (x y : S) (bound parts : ℕ) (old new closed : Session) (answer : Result Event Stop)
     (a b c : Targets) (r : Ran shows full failed Noted x y bound parts old new (Err answer))
-    → Written a b (signals r.log) → Written b c [] [] → IsFresh a → IsFinished c → c.failed ≡ true
+    → Written a b (shown r.log) (scripted r.log) → Written b c [] [] → IsFresh a → IsFinished c → c.failed ≡ true
     → closed.stopped ≡ Some Write → closed.waiting ≡ None
     → RunsOn (Wrote (record { screen = a.screen; script = a.script })
     (record { screen = c.screen; script = c.script }) c.either) Noted old closed (Err Write) c.either
 ran_part shows full failed Noted x y bound parts old new closed answer a b c r first rest fresh done broken
     stopped free =
-    let known = known_failed a b c (record { screen = shown r.log; script = scripted r.log }) fresh first rest in
+    let known = known_failed a b c (signals r.log) fresh first rest in
     let either : c.either ≡ true = sym known ∙ broken in
     record {
       log = r.log;
@@ -176,8 +178,10 @@ pub wrote_twice : (a b c : Taken) (failed : Bool) (l m : List Entry) → Wrote a
     → Wrote a c failed (l ++ m)
 wrote_twice a b c failed l m h k =
     record {
-      screen = rw (filter_map-append shown_in l m) (shows_twice _ _ _ _ _ h.screen k.screen);
-      script = rw (filter_map-append scripted_in l m) (shows_twice _ _ _ _ _ h.script k.script);
+      screen = rw (filter_map-append signal_in l m, filter_map-append text_in (signals l) (signals m)) (shows_twice _
+          _ _ _ _ h.screen k.screen);
+      script = rw (filter_map-append signal_in l m, filter_map-append script_in (signals l) (signals m)) (shows_twice
+          _ _ _ _ _ h.script k.script);
     }
 
 pub did_twice : {K : Type 0} (t : SlotTells K) (l m : List Entry) (a b c : K) → SlotDid t l a b → SlotDid t m b c
@@ -204,37 +208,34 @@ did_alone t l a e = rw e refl
 
 -- what a slot answers shows nothing, stands nowhere, and is no read
 record IsSilent (l : List Entry) : Type 0 where
-  screen : shown l ≡ []
-  script : scripted l ≡ []
+  given : signals l ≡ []
   nowhere : addresses l ≡ []
 
 wrote_none : (taken : Taken) (l : List Entry) → IsSilent l → Wrote taken taken false l
-wrote_none taken l h = record { screen = rw (h.screen) (shows_nothing _); script = rw (h.script) (shows_nothing _) }
+wrote_none taken l h = record { screen = rw (h.given) (shows_nothing _); script = rw (h.given) (shows_nothing _) }
 
 -- an entry of a slot, in each device's part
 record SlotEntry (x : Entry) : Type 0 where
-  screen : shown_in x ≡ None
-  script : scripted_in x ≡ None
+  given : signal_in x ≡ None
   nowhere : address_in x ≡ None
   answer : answer_in x ≡ Some x
   no_read : read_in x ≡ None
 
 slot_entry : (x : Entry) → IsOfSlot x → SlotEntry x
 slot_entry (Offered file kept) of =
-    record { screen = refl; script = refl; nowhere = refl; answer = refl; no_read = refl }
+    record { given = refl; nowhere = refl; answer = refl; no_read = refl }
 slot_entry (Asked file refusal) of =
-    record { screen = refl; script = refl; nowhere = refl; answer = refl; no_read = refl }
+    record { given = refl; nowhere = refl; answer = refl; no_read = refl }
 slot_entry (At address) of = absurd of
-slot_entry (Shown c) of = absurd of
-slot_entry (Scripted c) of = absurd of
+slot_entry (Shown signal) of = absurd of
 slot_entry (Read extra codes) of = absurd of
 slot_entry (Stopped stop) of = absurd of
 
 slot_silent : (x : Entry) (stop : Option Stop) → SlotEntry x → IsSilent (x ∷ stop_told stop)
 slot_silent x None h =
-    record { screen = rw (h.screen) refl; script = rw (h.script) refl; nowhere = rw (h.nowhere) refl }
+    record { given = rw (h.given) refl; nowhere = rw (h.nowhere) refl }
 slot_silent x (Some stop) h =
-    record { screen = rw (h.screen) refl; script = rw (h.script) refl; nowhere = rw (h.nowhere) refl }
+    record { given = rw (h.given) refl; nowhere = rw (h.nowhere) refl }
 
 slot_answers : (x : Entry) (stop : Option Stop) → SlotEntry x → answers_in (x ∷ stop_told stop) ≡ x ∷ []
 slot_answers x None h = rw (h.answer) refl
@@ -300,7 +301,7 @@ module _ {K P : Type 0} (t : SlotTells K) (notes : P → P → List ℕ → Type
         is = no_log start;
         no_reads = refl;
         wrote = wrote_none taken []
-            (record { screen = refl; script = refl; nowhere = refl });
+            (record { given = refl; nowhere = refl });
         did = refl;
         noted = none;
       }
@@ -482,8 +483,8 @@ read_is s event.Save codes h = absurd cc
 read_is s event.Restore codes h = absurd cc
 
 read_silent : (extra : ExtraTable) (codes : List ℕ) (x : Option Stop) → IsSilent (Read extra codes ∷ stop_told x)
-read_silent extra codes None = record { screen = refl; script = refl; nowhere = refl }
-read_silent extra codes (Some stop) = record { screen = refl; script = refl; nowhere = refl }
+read_silent extra codes None = record { given = refl; nowhere = refl }
+read_silent extra codes (Some stop) = record { given = refl; nowhere = refl }
 
 read_does : {K : Type 0} (t : SlotTells K) (extra : ExtraTable) (codes : List ℕ) (x : Option Stop) (a : K)
     → SlotDid t (answers_in (Read extra codes ∷ stop_told x)) a a
@@ -644,7 +645,7 @@ module _ {K P : Type 0} (t : SlotTells K) (notes : P → P → List ℕ → Type
   play_begins start slot p a none =
       record {
         is = no_log start;
-        wrote = wrote_none a [] (record { screen = refl; script = refl; nowhere = refl });
+        wrote = wrote_none a [] (record { given = refl; nowhere = refl });
         did = refl;
         noted = none;
       }

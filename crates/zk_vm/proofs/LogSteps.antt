@@ -7,7 +7,7 @@ use Rattle.std.proofs.lemmas.List.Elements.{filter_map-append}
 use Rattle.zk_state.specs.declared.refusal.Limit.TheVariants.{Steps}
 use Rattle.zk_step.specs.declared.state.ending.Event.{Event}
 use Rattle.zk_step.specs.declared.state.game_state.GameState.{GameState}
-use Rattle.zk_step.specs.Routing.{Signals, no_signals}
+use Rattle.zk_step.specs.Routing.{Signals, no_signals, on_script}
 use Rattle.zk_fast.specs.QuietSteps.{GoesBy, IsQuietStep}
 use Rattle.zk_fast.specs.QuietSteps.GoesBy.{nowhere, along}
 use Rattle.zk_vm.specs.declared.stop.Stop.{Stop}
@@ -16,9 +16,9 @@ use Rattle.zk_vm.specs.declared.waiting.Waiting.{Waiting}
 use Rattle.zk_vm.specs.Answers.Answer.{Typed}
 use Rattle.zk_vm.specs.Going.{GoesAhead, StopsAhead, after_steps, stop_by}
 use Rattle.zk_vm.specs.Halts.{Halt, IsLeftAt, IsStep, StepsTo, event_waited, halt_by}
-use Rattle.zk_vm.specs.Log.{Entry, IsLog, Passed, address_told, addresses, answers_in, goes_by, moved, scripted}
-use Rattle.zk_vm.specs.Log.{scripted_in, shown, shown_in, stepped_to, text_left, woven}
-use Rattle.zk_vm.specs.Log.Entry.{At, Scripted}
+use Rattle.zk_vm.specs.Log.{Entry, IsLog, Passed, address_told, addresses, answers_in, goes_by, moved}
+use Rattle.zk_vm.specs.Log.{signal_in, signals, stepped_to, text_left, told}
+use Rattle.zk_vm.specs.Log.Entry.{At}
 use Rattle.zk_vm.specs.Log.Move.{Gets, Goes}
 use Rattle.zk_vm.specs.Logged.{AtLast, IsOn, LacksState, Ran, RunEnds, WasNoted}
 use Rattle.zk_vm.specs.Pausing.{told_due}
@@ -27,7 +27,7 @@ use Rattle.zk_vm.specs.Step.{State, Verdict, step, state_after, text_of, verdict
 use Rattle.zk_vm.specs.Step.Verdict.{GoesOn, WaitsFor, StopsBy}
 use Rattle.zk_vm.proofs.Ahead.{more_behind, none_behind, refused_step, silent_step}
 use Rattle.zk_vm.proofs.Logs.{LogWith, Says, addresses_both, answers_both, logs_join, move_is, no_log, says_nothing}
-use Rattle.zk_vm.proofs.Logs.{says_script, says_step, says_stop, script_nowhere, step_stands, with_both, with_none}
+use Rattle.zk_vm.proofs.Logs.{says_told, says_step, says_stop, told_nowhere, step_stands, with_both, with_none}
 use Rattle.zk_vm.proofs.Logs.{with_step}
 
 step_move : (s : Session) → IsOn s → s.left ≡ None → s.state.steps < s.limits.steps
@@ -64,7 +64,6 @@ quiet_step : (s : Session) (v : GameState) (next : ℕ) → IsOn s → s.left �
     → IsQuietStep s.state.game s.state.pc v next
     → LogWith 0 s (At s.state.pc ∷ [])
     (record s { state = record s.state { game = v; pc = next; steps = s.state.steps + 1 } })
-unfolding woven
 quiet_step s v next on whole room quiet =
     let one = silent_step s.state v next quiet in
     let t : State = record s.state { game = v; pc = next; steps = s.state.steps + 1 } in
@@ -95,7 +94,7 @@ goes_quiet _ _ _ _ _ (along {places} {w} {v} {end} {pc} {next} {last} quiet rest
     let all : Quiet s (record mid { state = after_steps mid.state (length places) end last }) (pc ∷ places) = record {
       log = At s.state.pc ∷ more.log;
       is = with_both 0 0 0 s mid _ (At s.state.pc ∷ []) more.log (omega arith) on.runs first more.is;
-      says = record { screen = more.says.screen; script = more.says.script; alone = more.says.alone };
+      says = record { given = more.says.given; alone = more.says.alone };
       stands = ap (λ (a : ℕ). a ∷ addresses more.log) there ∙ ap (λ (l : List ℕ). pc ∷ l) more.stands;
     } in
     subst (λ (t : State). Quiet s (record s { state = t }) (pc ∷ places))
@@ -120,13 +119,11 @@ module _ {S : Type 0} (shows : S → S → Signals → Type 0) (nothing : (a : S
   got_both : (a b c : S) (l m : List Entry) (text : Signals) → shows a b (signals l) → Says m text
       → shows b c text → shows a c (signals (l ++ m))
   got_both a b c l m text h says k =
-      rw (filter_map-append shown_in l m, filter_map-append scripted_in l m, says.screen, says.script)
-      (twice a b c (shown l) text.screen (scripted l) text.script h k)
+      rw (filter_map-append signal_in l m, says.given) (twice a b c (signals l) text h k)
 
   got_twice : (a b c : S) (l m : List Entry) → shows a b (signals l) → shows b c (signals m)
       → shows a c (signals (l ++ m))
-  got_twice a b c l m h k = rw (filter_map-append shown_in l m, filter_map-append scripted_in l m)
-      (twice a b c (shown l) (shown m) (scripted l) (scripted m) h k)
+  got_twice a b c l m h k = rw (filter_map-append signal_in l m) (twice a b c (signals l) (signals m) h k)
 
   -- what holds of the screen since the last move of a log
   last_by : (holds : S → Bool) (a now b : S) (old s : Session) (log : List Entry) (m : _) → IsLog old log s
@@ -170,7 +167,7 @@ module _ {S : Type 0} (shows : S → S → Signals → Type 0) (nothing : (a : S
     pub last : (holds : S → Bool) → holds a ≡ false → holds b ≡ true → AtLast shows holds a b s (told_due s) log
 
   due_by : (a b : S) (s : Session) (due : List ℕ) → s.state.due ≡ due → s.stopped ≡ None → s.waiting ≡ None
-      → shows a b [] due → Dued a b s
+      → shows a b (on_script due) → Dued a b s
   due_by a b s [] e runs free h =
       let same : s ≡ told_due s = ap (λ (d : List ℕ). let x : Session = record s
       { state = record s.state { due = d } } in x) e in
@@ -186,16 +183,13 @@ module _ {S : Type 0} (shows : S → S → Signals → Type 0) (nothing : (a : S
       }
   due_by a b s (c ∷ cs) e runs free h =
       let is : moved s Goes ≡ goes_by (c ∷ cs) s = rw (runs, free, e) refl in
-      let says = says_script (c ∷ cs) in
-      let got : shows a b (signals (map Scripted (c ∷ cs))) = rw (
-        says.screen,
-        says.script,
-      ) h in
+      let says = says_told (on_script (c ∷ cs)) in
+      let got : shows a b (signals (told (on_script (c ∷ cs)))) = rw says.given h in
       record {
-        log = map Scripted (c ∷ cs);
+        log = told (on_script (c ∷ cs));
         is = subst (λ (p : Passed). LogWith 0 s p.entries p.to) is (with_step s);
         alone = says.alone;
-        nowhere = script_nowhere (c ∷ cs);
+        nowhere = told_nowhere (on_script (c ∷ cs));
         got = got;
         last = λ holds before after.
             let gets : shows a b (signals (moved s Goes).entries) =
@@ -204,7 +198,8 @@ module _ {S : Type 0} (shows : S → S → Signals → Type 0) (nothing : (a : S
             (last_by holds a a b s s [] Goes (no_log s) (nothing a) gets before after);
       }
 
-  pub due_got : (a b : S) (s : Session) → s.stopped ≡ None → s.waiting ≡ None → shows a b [] s.state.due → Dued a b s
+  pub due_got : (a b : S) (s : Session) → s.stopped ≡ None → s.waiting ≡ None → shows a b (on_script s.state.due)
+      → Dued a b s
   due_got a b s runs free h = due_by a b s s.state.due refl runs free h
 
   last_on : (holds : S → Bool) (a b c : S) (old mid to : Session) (l m : List Entry) → IsLog old l mid
@@ -301,7 +296,7 @@ module _ {S : Type 0} (shows : S → S → Signals → Type 0) (nothing : (a : S
       got = got_both a now b on.log (moved s Goes).entries text on.got says h;
       noted = n;
       last = λ holds before after. last_by holds a now b old s on.log Goes on.is.is on.got
-          (rw (says.screen, says.script) h) before after;
+          (rw says.given h) before after;
     }
 
     step_on : (Before Noted : List ℕ → Type 0) (parts : ℕ) (a now b : S) (old s : Session)
@@ -447,8 +442,7 @@ module _ {S : Type 0} (shows : S → S → Signals → Type 0) (nothing : (a : S
             is = on.is.is;
             counted = on.is.counted;
             alone = on.alone;
-            got = rw (append-nil (shown on.log), append-nil (scripted on.log)) at
-                (twice a now b (shown on.log) [] (scripted on.log) [] on.got got);
+            got = rw (append-nil (signals on.log)) at (twice a now b (signals on.log) [] on.got got);
             noted = inr ((new.state, lacks), chain p q r (addresses on.log) (s.state.pc ∷ []) on.noted one);
             ends = rw (memory) (ap (λ (m : Session). m.waiting) same ∙ on.on.free, inr (inl (refl, lacks)));
             at_once = λ before after. last_silent failed a now b old s on.log on.on on.is.is on.got got works after;

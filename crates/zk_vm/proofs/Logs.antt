@@ -9,7 +9,7 @@ use Rattle.zk_state.specs.declared.refusal.Refusal.TheVariants as refusal
 use Rattle.zk_state.specs.Frames.{FrameList, within_bounds}
 use Rattle.zk_step.specs.declared.state.ending.Event.{Event}
 use Rattle.zk_step.specs.declared.state.ending.Event.TheVariants.{Line, Char, Save, Restore}
-use Rattle.zk_step.specs.Routing.{Signals, no_signals, on_script, text_joined}
+use Rattle.zk_step.specs.Routing.{Signals, no_signals}
 use Rattle.zk_vm.specs.declared.stop.Stop.{Stop}
 use Rattle.zk_vm.specs.declared.waiting.Waiting.{Waiting}
 use Rattle.zk_vm.specs.Answers.{Answer, answered, answered_by, codes_of, is_kept, file_of}
@@ -19,8 +19,8 @@ use Rattle.zk_vm.specs.Step.Step.{Goes as GoesTo, Waits, Quits, Faults, Exceeds}
 use Rattle.zk_vm.specs.Step.Verdict.{GoesOn, WaitsFor, StopsBy}
 use Rattle.zk_vm.specs.Log.{Entry, Move, Passed, IsLeftIn, IsLog, IsPrefix, LogsJoin, address_in, address_told}
 use Rattle.zk_vm.specs.Log.{addresses, after, answer_in, answers_in, goes_by, heard_by, moved, moved_by, parts_of}
-use Rattle.zk_vm.specs.Log.{passed, scripted, scripted_in, shown, shown_in, stepped, stepped_to, stop_told, told, woven}
-use Rattle.zk_vm.specs.Log.Entry.{At, Shown, Scripted, Stopped}
+use Rattle.zk_vm.specs.Log.{passed, signal_in, signals, stepped, stepped_to, stop_told, told}
+use Rattle.zk_vm.specs.Log.Entry.{At, Shown, Stopped}
 use Rattle.zk_vm.specs.Log.Move.{Goes, Gets, Part}
 use Rattle.zk_vm.proofs.AnswerSteps.{NoWait, answered_free}
 
@@ -246,76 +246,40 @@ plain_agree (m ∷ ms) ns s = one_more m ms (plain_agree ms) ns s
 
 -- ---- what a log shows
 
--- one device alone gets its characters as they are
-pub woven_alone : (l : List Entry) → woven l [] ≡ l
-unfolding woven
-woven_alone [] = refl
-woven_alone (x ∷ l) = refl
-
 -- a log shows a text, and has no answer
 pub record Says (l : List Entry) (t : Signals) : Type 0 where
-  pub screen : shown l ≡ t.screen
-  pub script : scripted l ≡ t.script
+  pub given : signals l ≡ t
   pub alone : answers_in l ≡ []
 
 pub answers_both : (l m : List Entry) → answers_in l ≡ [] → answers_in m ≡ [] → answers_in (l ++ m) ≡ []
 answers_both l m e f = rw (filter_map-append answer_in l m, e, f) refl
 
-pub says_both : (l m : List Entry) (t u : Signals) → Says l t → Says m u → Says (l ++ m) (text_joined t u)
+pub says_both : (l m : List Entry) (t u : Signals) → Says l t → Says m u → Says (l ++ m) (t ++ u)
 says_both l m t u a b = record {
-  screen = rw (filter_map-append shown_in l m, a.screen, b.screen) refl;
-  script = rw (filter_map-append scripted_in l m, a.script, b.script) refl;
+  given = rw (filter_map-append signal_in l m, a.given, b.given) refl;
   alone = answers_both l m a.alone b.alone;
 }
 
-pub says_script : (cs : List ℕ) → Says (map Scripted cs) (on_script cs)
-says_script [] = record { screen = refl; script = refl; alone = refl }
-says_script (c ∷ cs) =
-    let rest = says_script cs in record {
-      screen = rest.screen;
-      script = ap (λ (l : List ℕ). c ∷ l) rest.script;
-      alone = rest.alone;
-    }
-
-says_woven : (cs ds : List ℕ) → Says (woven (map Shown cs) (map Scripted ds)) (record { screen = cs; script = ds })
-unfolding woven
-says_woven [] ds = says_script ds
-says_woven (c ∷ cs) [] = let rest = rw (woven_alone (map Shown cs)) at (says_woven cs []) in
-    record { screen = ap (λ (l : List ℕ). c ∷ l) rest.screen; script = rest.script; alone = rest.alone }
-says_woven (c ∷ cs) (d ∷ ds) = let rest = says_woven cs ds in
-    record {
-      screen = ap (λ (l : List ℕ). c ∷ l) rest.screen;
-      script = ap (λ (l : List ℕ). d ∷ l) rest.script;
-      alone = rest.alone;
-    }
-
 pub says_told : (t : Signals) → Says (told t) t
-says_told t = says_woven t
+says_told [] = record { given = refl; alone = refl }
+says_told (x ∷ t) =
+    let rest = says_told t in record { given = ap (λ (l : Signals). x ∷ l) rest.given; alone = rest.alone }
 
 pub says_at : (pc : ℕ) (l : List Entry) (t : Signals) → Says l t → Says (At pc ∷ l) t
-says_at pc l t h = record { screen = h.screen; script = h.script; alone = h.alone }
+says_at pc l t h = record { given = h.given; alone = h.alone }
 
 pub says_stop : (stop : Stop) → Says (Stopped stop ∷ []) no_signals
-says_stop stop = record { screen = refl; script = refl; alone = refl }
+says_stop stop = record { given = refl; alone = refl }
 
 pub says_nothing : Says [] no_signals
-says_nothing = record { screen = refl; script = refl; alone = refl }
+says_nothing = record { given = refl; alone = refl }
 
 pub addresses_both : (l m : List Entry) (a b : List ℕ) → addresses l ≡ a → addresses m ≡ b → addresses (l ++ m) ≡ a ++ b
 addresses_both l m a b e f = rw (filter_map-append address_in l m, e, f) refl
 
-pub script_nowhere : (cs : List ℕ) → addresses (map Scripted cs) ≡ []
-script_nowhere [] = refl
-script_nowhere (c ∷ cs) = script_nowhere cs
-
-woven_nowhere : (cs ds : List ℕ) → addresses (woven (map Shown cs) (map Scripted ds)) ≡ []
-unfolding woven
-woven_nowhere [] ds = script_nowhere ds
-woven_nowhere (c ∷ cs) [] = rw (woven_alone (map Shown cs)) at (woven_nowhere cs [])
-woven_nowhere (c ∷ cs) (d ∷ ds) = woven_nowhere cs ds
-
 pub told_nowhere : (t : Signals) → addresses (told t) ≡ []
-told_nowhere t = woven_nowhere t
+told_nowhere [] = refl
+told_nowhere (x ∷ t) = told_nowhere t
 
 -- ---- a step
 
@@ -329,7 +293,7 @@ says_step s GoesOn t text = says_address s.left s.state.pc (told text) text (say
 says_step s (WaitsFor w) t text = says_address s.left s.state.pc (told text) text (says_told text)
 says_step s (StopsBy stop) t text =
     says_address s.left s.state.pc (told text ++ Stopped stop ∷ []) text
-    (rw (append-nil text.screen, append-nil text.script) at
+    (rw (append-nil text) at
     (says_both (told text) (Stopped stop ∷ []) text no_signals (says_told text) (says_stop stop)))
 
 -- it stands at one address, unless that was told before

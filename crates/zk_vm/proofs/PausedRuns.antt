@@ -1,7 +1,7 @@
 -- The log of a run that pauses in texts.
 use Rattle.std.proofs.Common.{◌≡◌, ◌∙◌, ◌<◌, ◌≤◌, ◌-◌, ◌+◌, ◌⊎◌, inl, inr, ℕ, zero, suc, Bool, true, false, List, []}
-use Rattle.std.proofs.Common.{◌∷◌, ◌++◌, IfSome, append_assoc, append-nil, Option, Some, None, Result, Ok, Err, refl}
-use Rattle.std.proofs.Common.{ap, sym, subst, arith, nat_le}
+use Rattle.std.proofs.Common.{take, drop, ◌∷◌, ◌++◌, IfSome, append_assoc, append-nil, Option, Some, None, Result, Ok}
+use Rattle.std.proofs.Common.{Err, refl, ap, sym, subst, arith, nat_le}
 use Rattle.std.specs.Prelude.{MatchResult}
 use Rattle.std.proofs.lemmas.Bool.Decides.{nat_tests}
 use Rattle.std.proofs.lemmas.List.Elements.{filter_map-append}
@@ -16,7 +16,7 @@ use Rattle.zk_step.specs.declared.state.ending.Effect.{Effect}
 use Rattle.zk_step.specs.declared.state.ending.Event.{Event}
 use Rattle.zk_step.specs.declared.state.game_state.GameState.{GameState}
 use Rattle.zk_step.specs.Effects.{effect_of}
-use Rattle.zk_step.specs.Halves.{IsHalf, rest_text, text_due, text_first, text_later}
+use Rattle.zk_step.specs.Halves.{IsHalf, rest_text, text_due}
 use Rattle.zk_step.specs.Printing.{IsLong}
 use Rattle.zk_step.specs.Routing.{Signals, no_signals}
 use Rattle.zk_step.specs.Saving.{saving}
@@ -26,7 +26,7 @@ use Rattle.zk_vm.specs.Answers.Answer.{Typed}
 use Rattle.zk_vm.specs.Halts.{CanAnswer, Halt, IsAnswerable, IsKeeping, IsLeftAt, IsStep, KeepsState, StepsTo}
 use Rattle.zk_vm.specs.Halts.{event_waited, halt_by}
 use Rattle.zk_vm.specs.Log.{Entry, IsLeftIn, Move, Passed, after, is_silent, moved, parted, parted_to, part_shown}
-use Rattle.zk_vm.specs.Log.{parts_of, passed, scripted, scripted_in, shown, shown_in, stepped_to, text_left, text_shown}
+use Rattle.zk_vm.specs.Log.{parts_of, passed, signal_in, signals, stepped_to, text_left, text_shown}
 use Rattle.zk_vm.specs.Log.{told}
 use Rattle.zk_vm.specs.Log.Move.{Gets, Goes, Part}
 use Rattle.zk_vm.specs.Logged.{AtLast, IsOn, LacksState, Ran, RunEnds}
@@ -68,12 +68,11 @@ module _ {S : Type 0} (shows : S → S → Signals → Type 0) (nothing : (a : S
     (twice : (a b c : S) (s t : Signals) → shows a b s → shows b c t → shows a c (s ++ t)) where
   says_got : (a b : S) (l : List Entry) (t : Signals) → Says l t → shows a b t
       → shows a b (signals l)
-  says_got a b l t says h = rw (says.screen, says.script) h
+  says_got a b l t says h = rw says.given h
 
   got_twice : (a b c : S) (l m : List Entry) → shows a b (signals l) → shows b c (signals m)
       → shows a c (signals (l ++ m))
-  got_twice a b c l m h k = rw (filter_map-append shown_in l m, filter_map-append scripted_in l m)
-      (twice a b c (shown l) (shown m) (scripted l) (scripted m) h k)
+  got_twice a b c l m h k = rw (filter_map-append signal_in l m) (twice a b c (signals l) (signals m) h k)
 
   -- ---- one move
 
@@ -163,10 +162,10 @@ module _ {S : Type 0} (shows : S → S → Signals → Type 0) (nothing : (a : S
       let text = text_left (left_of s.state.game before) s.state in
       let same : text_due s.state.game i before ≡ text = cut_text s.state i before shows_it in
       let is = part_is n s before on room shows_it.goes in
-      let says : Says (moved u (Part n)).entries (text_first n text) = subst (λ (p : Passed). Says p.entries
-      (text_first n text)) (sym is) (says_address u.left u.state.pc (told (text_first n text))
-      (text_first n text) (says_told (text_first n text))) in
-      let later : rest_text s.state.game h.rest ≡ text_later n text = cut.shown.is ∙ ap (text_later n) same in
+      let says : Says (moved u (Part n)).entries (take n text) = subst (λ (p : Passed). Says p.entries
+      (take n text)) (sym is) (says_address u.left u.state.pc (told (take n text))
+      (take n text) (says_told (take n text))) in
+      let later : rest_text s.state.game h.rest ≡ drop n text = cut.shown.is ∙ ap (drop n) same in
       record {
         move = Part n;
         counted = refl;
@@ -174,8 +173,8 @@ module _ {S : Type 0} (shows : S → S → Signals → Type 0) (nothing : (a : S
             ∙ ap (λ (t : Signals). let x : Session = record s { left = Some t } in x) later
             ∙ sym (ap (λ (p : Passed). p.to) is);
         alone = says.alone;
-        got = says_got a b (moved u (Part n)).entries (text_first n text) says
-            (subst (λ (x : Signals). shows a b (text_first n x)) same cut.shown.shown);
+        got = says_got a b (moved u (Part n)).entries (take n text) says
+            (subst (λ (x : Signals). shows a b (take n x)) same cut.shown.shown);
         on =
             record {
               runs = ap (λ (m : Session). m.stopped) cut.same ∙ on.runs;
@@ -198,7 +197,8 @@ module _ {S : Type 0} (shows : S → S → Signals → Type 0) (nothing : (a : S
 
   module _ (full failed : S → Bool) where
     -- what holds of the screen since a move
-    since : (holds : S → Bool) (a b : S) (u : Session) (m : Move) → shows a b (signals (moved u m).entries) → holds a ≡ false → holds b ≡ true
+    since : (holds : S → Bool) (a b : S) (u : Session) (m : Move) → shows a b (signals (moved u m).entries)
+        → holds a ≡ false → holds b ≡ true
         → AtLast shows holds a b u (moved u m).to (moved u m).entries
     since holds a b u m gets before after =
         record {
@@ -528,7 +528,8 @@ module _ {S : Type 0} (shows : S → S → Signals → Type 0) (nothing : (a : S
         }
     ran_bound bound i a b old s (Err h) x works at few =
         let is = move_is zero s x.on.runs x.on.free x.on.silent (omega (arith, few.1)) in
-        let says = subst (λ (p : Passed). Says p.entries no_signals) (sym is) (says_stop (stops.Limit s.state.pc Steps)) in
+        let says = subst (λ (p : Passed). Says p.entries no_signals) (sym is) (says_stop (stops.Limit s.state.pc
+        Steps)) in
         let stopped : (moved s Goes).to.stopped ≡ Some (stops.Limit s.state.pc Steps) =
         ap (λ (p : Passed). p.to.stopped) is in
         let both = with_both i 0 i old s (moved s Goes).to x.log (moved s Goes).entries (omega arith) x.on.runs

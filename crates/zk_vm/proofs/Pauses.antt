@@ -217,16 +217,14 @@ refused_rest found i codes draft h e half err =
     refl refl half.way.2 (has_begun found taken i half.values h.effect half.operands half.made)
     (long_routed found taken i half.values h.effect.output half.operands half.long) err
 
-all_taken : (n : ℕ) (l : List ℕ) → drop n l ≡ [] → take n l ≡ l
-all_taken n l none = sym (append-nil (take n l)) ∙ ap (λ (x : List ℕ). take n l ++ x) (sym none) ∙ take-append-drop n l
+all_taken : (n : ℕ) (l : Signals) → drop n l ≡ [] → take n l ≡ l
+all_taken n l none = sym (append-nil (take n l)) ∙ ap (λ (x : Signals). take n l ++ x) (sym none) ∙ take-append-drop n l
 
 -- a text of which nothing is still to come was shown
 pub whole_shown : {S : Type 0} (shows : S → S → Signals → Type 0) (a b : S) (t : Signals)
     → ShowsSome shows a b t no_signals → shows a b t
 whole_shown {S} shows a b t h =
-    let screen = all_taken h.count t.screen (sym (ap (λ (x : Signals). x.screen) h.is)) in
-    let script = all_taken h.count t.script (sym (ap (λ (x : Signals). x.script) h.is)) in
-    rw (screen, script) at h.shown
+    rw (all_taken h.count t (sym h.is)) at h.shown
 
 -- ---- the ways of a step
 
@@ -239,7 +237,8 @@ pub made_at : {S : Type 0} (shows : S → S → Signals → Type 0) (a b : S) (m
 made_at {S} shows a b m i None w p t h told is text =
     stepped_on shows a b m i w p t h told (rw is (whole_shown shows a b (text_due m.game i None) text))
 made_at {S} shows a b m i (Some x) w p t h told is text =
-    stepped_on (λ (y z : S) (cs ds : List ℕ). shows a b (rest_text m.game x.rest)) a b m i w p t h told (whole_shown shows a b (rest_text m.game x.rest) text)
+    stepped_on (λ (y z : S) (cs : Signals). shows a b (rest_text m.game x.rest)) a b m i w p t h told (whole_shown
+    shows a b (rest_text m.game x.rest) text)
 
 pub made_asked : {S : Type 0} (shows : S → S → Signals → Type 0) (twice : (a b c : S) (s t : Signals)
     → shows a b s → shows b c t → shows a c (s ++ t)) (a b c : S) (m : Inside) (new : Session)
@@ -266,7 +265,7 @@ pub made_err : {S : Type 0} (shows : S → S → Signals → Type 0) (a b : S) (
 made_err {S} shows a b m new i None codes draft e answer half h told tells free text =
     stepped_err shows a b m new i e answer h told tells free (rw told text)
 made_err {S} shows a b m new i (Some y) codes draft e answer half h told tells free text =
-    stepped_err (λ (u v : S) (cs ds : List ℕ). shows a b (rest_text m.game y.rest)) a b m new i e answer h told tells free
+    stepped_err (λ (u v : S) (cs : Signals). shows a b (rest_text m.game y.rest)) a b m new i e answer h told tells free
     (rw (refused_rest m.game i codes draft y e half told) text)
 
 -- ---- the instruction at the program counter

@@ -3,6 +3,7 @@ use Rattle.std.proofs.Common.{◌≡◌, ◌∙◌, Bool, true, false, [], sym, 
 use Rattle.zk_term.specs.Devices.{Sends, Shows}
 use Rattle.zk_term.proofs.Sending.{sends_shows}
 use Rattle.zk_step.specs.Routing.{Signals}
+use Rattle.zk_term.specs.Signals.{screen_text, script_text}
 use Rattle.zk_term.specs.BufferedScreens.{Targets, Written, written_twice, screen_sender, script_sender}
 
 -- targets that nothing waits for, and that no write has failed on
@@ -20,21 +21,23 @@ pub record IsFinished (a : Targets) : Type 0 where
 -- what the two targets got
 abbrev pub BothShow : Targets → Targets → Bool → Signals → Type 0
 BothShow a c failed t =
-    Shows (record { taken = a.screen; failed = false }) (record { taken = c.screen; failed = failed }) t.screen
-    × Shows (record { taken = a.script; failed = false }) (record { taken = c.script; failed = failed }) t.script
+    Shows (record { taken = a.screen; failed = false }) (record { taken = c.screen; failed = failed }) (screen_text t)
+    × Shows (record { taken = a.script; failed = false }) (record { taken = c.script; failed = failed }) (script_text t)
 
-pub both_show : (a b c : Targets) (t : Signals) → IsFresh a → IsFinished c → Written a b t
+pub both_show : (a b c : Targets) (t : Signals) → IsFresh a → IsFinished c → Written a b (screen_text t) (script_text t)
     → Written b c [] [] → BothShow a c c.failed t
 both_show a b c t fresh done first rest =
-    let all : Written a c t = rw (append-nil t.screen, append-nil t.script) at
-    (written_twice a b c t.screen [] t.script [] first rest) in (
-      rw fresh.failed at (sends_shows (screen_sender a) (screen_sender c) t.screen fresh.screen done.screen
+    let x = screen_text t in
+    let y = script_text t in
+    let all : Written a c x y = rw (append-nil x, append-nil y) at (written_twice a b c x [] y [] first rest) in (
+      rw fresh.failed at (sends_shows (screen_sender a) (screen_sender c) x fresh.screen done.screen
           all.screen_sent),
-      rw fresh.failed at (sends_shows (script_sender a) (script_sender c) t.script fresh.script done.script
+      rw fresh.failed at (sends_shows (script_sender a) (script_sender c) y fresh.script done.script
           all.script_sent),
     )
 
-pub known_failed : (a b c : Targets) (t : Signals) → IsFresh a → Written a b t → Written b c [] []
+pub known_failed : (a b c : Targets) (t : Signals) → IsFresh a → Written a b (screen_text t) (script_text t)
+    → Written b c [] []
     → c.failed ≡ c.either
 known_failed a b c t fresh first rest = rest.known (first.known (fresh.failed ∙ sym fresh.either))
 

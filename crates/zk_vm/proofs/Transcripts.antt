@@ -13,17 +13,22 @@ use Rattle.zk_text.specs.declared.unit.Unit.TheVariants.{Code}
 use Rattle.zk_text.specs.Extra.{ExtraTable}
 use Rattle.zk_text.specs.Shown.{shown, shown_all, characters_shown}
 use Rattle.zk_text.proofs.ShownLemmas.{shown_all-append, shown_all-one}
+use Rattle.zk_step.specs.Routing.{Signals, on_script}
 use Rattle.zk_step.specs.Status.{code_units}
+use Rattle.zk_term.specs.Signals.Signal.{Script}
 use Rattle.zk_step.specs.TextBuffers.{early_kept, later_kept, is_filled, kept_of}
 
 -- one more character
 pub next_shown : {S : Type 0} (shows : S → S → Signals → Type 0) (twice : (a b c : S) (s t : Signals)
     → shows a b s → shows b c t → shows a c (s ++ t))
-    (old now new : S) (cs : List ℕ) (i c : ℕ) → i < length cs → c ≡ get_or cs i c → shows old now [] (take i cs)
-    → shows now new [] (c ∷ []) → shows old new [] (take (i + 1) cs)
+    (old now new : S) (cs : List ℕ) (i c : ℕ) → i < length cs → c ≡ get_or cs i c
+    → shows old now (on_script (take i cs))
+    → shows now new (on_script (c ∷ [])) → shows old new (on_script (take (i + 1) cs))
 next_shown {S} shows twice old now new cs i c lt is h one =
-    subst (λ (t : List ℕ). shows old new [] t) (ap (λ (x : ℕ). take i cs ++ x ∷ []) is
-    ∙ sym (take_more cs i c lt)) (twice old now new [] [] (take i cs) (c ∷ []) h one)
+    let more : on_script (take (i + 1) cs) ≡ on_script (take i cs) ++ on_script (c ∷ []) =
+    ap on_script (take_more cs i c lt ∙ ap (λ (x : ℕ). take i cs ++ x ∷ []) (sym is))
+    ∙ map-append Script (take i cs) (c ∷ []) in
+    rw more (twice old now new _ _ h one)
 
 -- ---- the characters of a line
 

@@ -1,13 +1,13 @@
 -- The log of a machine: what passes between it and its world, in order.
 use Rattle.std.specs.Prelude.{◌≡◌, ◌⊎◌, ◌-◌, ◌+◌, ◌++◌, ◌==◌, ◌&&◌, ℕ, zero, suc, Bool, true, false, List, [], ◌∷◌}
-use Rattle.std.specs.Prelude.{filter_map, length, map, Option, Some, None}
+use Rattle.std.specs.Prelude.{drop, filter_map, length, map, take, Option, Some, None}
 use Rattle.zk_text.specs.Extra.{ExtraTable, own_characters}
 use Rattle.zk_state.specs.declared.refusal.Limit.TheVariants.{Steps}
 use Rattle.zk_save.specs.declared.restore.RestoreError.{RestoreError}
 use Rattle.zk_step.specs.declared.state.ending.Event.{Event}
 use Rattle.zk_step.specs.declared.state.ending.Event.TheVariants.{Line, Char, Save, Restore}
-use Rattle.zk_step.specs.Halves.{text_first, text_later}
-use Rattle.zk_step.specs.Routing.{Signals, no_signals}
+use Rattle.zk_step.specs.Routing.{Signals, no_signals, on_script}
+use Rattle.zk_term.specs.Signals.{Signal, screen_text, script_text}
 use Rattle.zk_vm.specs.declared.stop.Stop.{Stop}
 use Rattle.zk_vm.specs.declared.stop.Stop.TheVariants.{Limit as LimitAt}
 use Rattle.zk_vm.specs.declared.waiting.Waiting.{Waiting}
@@ -20,27 +20,20 @@ use Rattle.zk_vm.specs.Step.Verdict.{GoesOn, WaitsFor, StopsBy}
 
 -- ---- entries
 
--- What passes: the instruction at a byte address is carried out; a character is shown on the screen, or goes to the
--- transcript; codes are read, by the extra characters in force; a saved game is offered, and kept or not; one is asked
--- for, and comes or not, and may be refused; the machine stops.
+-- What passes: the instruction at a byte address is carried out; a screen is given a signal; codes are read, by the
+-- extra characters in force; a saved game is offered, and kept or not; one is asked for, and comes or not, and may be
+-- refused; the machine stops.
 pub data Entry : Type 0 where
   At : (address : ℕ) → Entry
-  Shown : (c : ℕ) → Entry
-  Scripted : (c : ℕ) → Entry
+  Shown : (signal : Signal) → Entry
   Read : (extra : ExtraTable) (codes : List ℕ) → Entry
   Offered : (file : List ℕ) (kept : Bool) → Entry
   Asked : (file : Option (List ℕ)) (refusal : Option RestoreError) → Entry
   Stopped : (stop : Stop) → Entry
 
--- devices get characters one after the other: the screen's is followed by the transcript's
-unfoldable pub woven : List Entry → List Entry → List Entry
-woven [] ys = ys
-woven (x ∷ xs) [] = x ∷ xs
-woven (x ∷ xs) (y ∷ ys) = x ∷ y ∷ woven xs ys
-
 -- the entries of a text
 abbrev pub told : Signals → List Entry
-told t = woven (map Shown t.screen) (map Scripted t.script)
+told t = map Shown t
 
 -- the entry of an answer, by what the machine waits for
 abbrev pub heard_by : Session → Event → Answer → Entry
@@ -70,7 +63,7 @@ text_shown (Exceeds l) = no_signals
 
 -- a text that shows nothing
 abbrev pub is_silent : Signals → Bool
-is_silent t = (length t.screen == 0) && (length t.script == 0)
+is_silent t = length t == 0
 
 -- an instruction's address is told before the first part of its text
 abbrev pub address_told : Option Signals → ℕ → List Entry
@@ -79,7 +72,7 @@ address_told (Some t) pc = []
 
 -- ---- moves
 
--- a machine goes on by itself, shows some characters of each device of the text of its next step, or gets an answer
+-- a machine goes on by itself, shows some signals of the text of its next step, or gets an answer
 pub data Move : Type 0 where
   Goes : Move
   Part : (n : ℕ) → Move
@@ -124,14 +117,19 @@ stepped (suc left) s =
 -- before it the transcript gets what it is still to get
 abbrev pub goes_by : List ℕ → Session → Passed
 goes_by [] s = stepped (s.limits.steps - s.state.steps) s
-goes_by (c ∷ cs) s = record { entries = map Scripted (c ∷ cs); to = record s { state = record s.state { due = [] } } }
+goes_by (c ∷ cs) s = record {
+  entries = told (on_script (c ∷ cs));
+  to = record s {
+    state = record s.state { due = [] };
+  };
+}
 
 -- a part of a text is shown, and the rest is left; the state is still that before the step
 abbrev pub part_shown : ℕ → Session → Signals → Passed
 part_shown n s text =
     record {
-      entries = address_told s.left s.state.pc ++ told (text_first n text);
-      to = record s { left = Some (text_later n text) };
+      entries = address_told s.left s.state.pc ++ told (take n text);
+      to = record s { left = Some (drop n text) };
     }
 
 -- a step that stops has no parts: it is made, unless whatever the limits are nothing would be shown of it
@@ -197,13 +195,9 @@ abbrev pub address_in : Entry → Option ℕ
 address_in (At address) = Some address
 address_in _ = None
 
-abbrev pub shown_in : Entry → Option ℕ
-shown_in (Shown c) = Some c
-shown_in _ = None
-
-abbrev pub scripted_in : Entry → Option ℕ
-scripted_in (Scripted c) = Some c
-scripted_in _ = None
+abbrev pub signal_in : Entry → Option Signal
+signal_in (Shown signal) = Some signal
+signal_in _ = None
 
 abbrev pub answer_in : Entry → Option Entry
 answer_in (Read extra codes) = Some (Read extra codes)
@@ -219,12 +213,16 @@ read_in _ = None
 abbrev pub addresses : List Entry → List ℕ
 addresses l = filter_map address_in l
 
+-- what the screen was given
+abbrev pub signals : List Entry → Signals
+signals l = filter_map signal_in l
+
 -- the characters on the screen, and those of the transcript
 abbrev pub shown : List Entry → List ℕ
-shown l = filter_map shown_in l
+shown l = screen_text (signals l)
 
 abbrev pub scripted : List Entry → List ℕ
-scripted l = filter_map scripted_in l
+scripted l = script_text (signals l)
 
 -- what came from the world, and what was offered to it
 abbrev pub answers_in : List Entry → List Entry

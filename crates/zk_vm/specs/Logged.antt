@@ -11,12 +11,13 @@ use Rattle.zk_vm.specs.declared.stop.Stop.{Stop}
 use Rattle.zk_vm.specs.declared.stop.Stop.TheVariants.{Memory, Write}
 use Rattle.zk_vm.specs.Halts.{Halt, IsKeeping, event_waited}
 use Rattle.zk_vm.specs.Log.{Entry, IsLog, Move, addresses, answers_in, moved, parts_of, reads_in, scripted, shown}
-use Rattle.zk_vm.specs.Log.{stop_told}
+use Rattle.zk_vm.specs.Log.{stop_told, signals}
 use Rattle.zk_vm.specs.Log.Entry.{Offered, Asked}
 use Rattle.zk_vm.specs.Sessions.{Session}
 use Rattle.zk_vm.specs.Plays.{AsksForFile, AsksForLine, FoundNoLine, IsHeard, IsTold, SlotTells, SourceTells, Taken}
 use Rattle.zk_vm.specs.Plays.{TookLines, stop_behind}
 use Rattle.zk_vm.specs.Step.{State}
+use Rattle.zk_step.specs.Routing.{Signals}
 
 -- ---- where there is no memory
 

@@ -1,7 +1,7 @@
 // Worked examples of the definitions, which refuse one that is turned together with its body.
 #![tactic(auto, unfolding(crate::proofs::guards::Opened::examples))]
 
-ghost use Rattle.zk_vm.specs.guards.Examples.{DevicesTakeTurns, OthersHaveNoParts, PartsAreShown, PartsMakeNoStep};
+ghost use Rattle.zk_vm.specs.guards.Examples.{OthersHaveNoParts, PartsAreShown, PartsMakeNoStep};
 ghost use Rattle.zk_vm.specs.guards.Examples.{ReadsHaveParts, ViewsShowRows, NoViewPastTheMostReads, ScriptsGetText};
 ghost use Rattle.zk_vm.specs.guards.Examples.{DueTextComesFirst, DevicesHaveParts, VariablesLeave, OthersStay};
 ghost use Rattle.zk_vm.specs.guards.Examples.{StoriesEnd, FaultsStop, BranchesLead, StepsAreLimited, WordsAreLimited};
@@ -52,7 +52,6 @@ pub fn views_by_example()
 
 /// Parts of a text.
 pub fn parts_by_example()
-    ensures devices_take_turns { DevicesTakeTurns }
     ensures parts_are_shown { PartsAreShown }
     ensures parts_make_no_step { PartsMakeNoStep }
     ensures reads_have_parts { ReadsHaveParts }

@@ -3,6 +3,7 @@
 ghost use Rattle.std.specs.Prelude.{◌≡◌, ◌≤◌, ◌*◌, [], if◌then◌else◌, length};
 ghost use Rattle.zk_text.specs.Extra.{own_characters};
 ghost use Rattle.zk_text.specs.Shown.{shown_all};
+ghost use Rattle.zk_step.specs.Routing.{on_script};
 ghost use Rattle.zk_step.specs.Status.{code_units};
 ghost use Rattle.zk_vm.specs.Answers.{line_shown, is_transcribed};
 
@@ -18,7 +19,7 @@ use zk_text::unit::Unit;
 
 /// Adds characters to the transcript.
 pub fn script_all<S: Screen>(screen: &mut S, characters: &[char])
-    ensures { S.shows screen.old screen.new [] characters.now }
+    ensures { S.shows screen.old screen.new (on_script characters.now) }
 {
     for c in characters {
         screen.script(*c);

@@ -13,7 +13,8 @@ use Rattle.zk_term.specs.Styles.{roman}
 use Rattle.zk_term.specs.Windows.{Windows, cleared, first_windows, printed, split, unsplit, window_selected}
 use Rattle.zk_code.specs.declared.opcode.Table.TheVariants.{ScanTable, PrintTable}
 use Rattle.zk_code.specs.declared.opcode.Window.TheVariants.{SplitWindow, SetWindow, EraseLine, SetCursor, GetCursor}
-use Rattle.zk_code.specs.declared.opcode.Window.TheVariants.{EraseWindow, ShowStatus, SetTextStyle, SetFont, SoundEffect}
+use Rattle.zk_code.specs.declared.opcode.Window.TheVariants.{EraseWindow, ShowStatus, SetTextStyle, SetFont}
+use Rattle.zk_code.specs.declared.opcode.Window.TheVariants.{SoundEffect}
 use Rattle.zk_step.specs.declared.state.ending.Ending.TheVariants.{GoOn}
 use Rattle.zk_step.specs.declared.state.ending.Output.TheVariants.{Code, Rows, Erasure, Bleep}
 use Rattle.zk_step.specs.declared.state.random.Generators.{Generators}
@@ -234,7 +235,11 @@ WindowsAreChanged =
 -- 8.7.3)
 abbrev pub WindowsAreErased : Type 0
 WindowsAreErased =
-    (window_effect EraseWindow (with_windows upper_selected) (0 ∷ []) ≡ Ok (with_windows upper_selected, prints Erasure))
+    (window_effect EraseWindow (with_windows upper_selected) (0 ∷ []) ≡ Ok (
+      with_windows upper_selected,
+      prints
+          Erasure,
+    ))
     × (window_effect EraseWindow (with_windows upper_selected) (1 ∷ []) ≡ Ok
     (with_windows (cleared upper_selected), goes_on))
     × (window_effect EraseWindow (with_windows upper_selected) (65535 ∷ []) ≡ Ok

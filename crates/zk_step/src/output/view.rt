@@ -6,10 +6,9 @@ ghost use Rattle.zk_text.specs.declared.unit.Unit.{Unit};
 ghost use Rattle.zk_text.specs.Extra.{own_characters};
 ghost use Rattle.zk_text.specs.Shown.{shown_all};
 ghost use Rattle.zk_term.specs.Windows.{row_text};
-ghost use Rattle.zk_step.specs.Routing.{fresh_line, on_screen};
+ghost use Rattle.zk_step.specs.Routing.{fresh_line, on_screen, text_routed};
 ghost use Rattle.zk_step.specs.Status.{status_units};
 ghost use Rattle.zk_step.specs.View.{viewed, viewed_by, rows_shown};
-ghost use Rattle.zk_step.specs.Routing.{text_routed};
 ghost use Rattle.zk_step.specs.declared.state.game_state.View.TheVariants as view;
 
 use crate::output::giving::give_status;

@@ -13,7 +13,7 @@ use Rattle.zk_vm.specs.Step.{State, Step, Verdict, state_after, step, text_of, v
 use Rattle.zk_vm.specs.Step.Step.{Goes as GoesTo, Waits, Quits, Faults, Exceeds}
 use Rattle.zk_vm.specs.Step.Verdict.{StopsBy}
 use Rattle.zk_vm.specs.Log.{Entry, Passed, address_told, after, heard_by, moved_by, stepped, stepped_to, stop_told}
-use Rattle.zk_vm.specs.Log.{text_left, told, woven}
+use Rattle.zk_vm.specs.Log.{text_left, told}
 use Rattle.zk_vm.specs.Log.Entry.{At, Stopped}
 use Rattle.zk_vm.specs.Log.Move.{Gets, Goes}
 use Rattle.zk_vm.proofs.Moves.{moved_gets, moved_steps, passed_last, passed_on}
@@ -30,7 +30,6 @@ passes_stops l s (Exceeds m) h = rw h (refl, refl)
 -- a step that does
 stops_told : (left : Option Signals) (s : State) (l : List Entry) → text_of s (step s) ≡ no_signals
     → address_told left s.pc ++ (told (text_left left s) ++ l) ≡ last_told left s.pc ++ l
-unfolding woven
 stops_told None s l e = ap (λ (t : Signals). At s.pc ∷ told t ++ l) e
 stops_told (Some t) s l e = refl
 

@@ -5,40 +5,24 @@ use Rattle.std.specs.List.{drop-map}
 use Rattle.std.specs.Prelude.{drop, map, take}
 use Rattle.std.proofs.lemmas.List.{drop-drop, drop-take, take-map, take-take, take-append-drop}
 use Rattle.std.proofs.lemmas.List.Elements.{filter_map-append}
-use Rattle.zk_step.specs.Routing.{Signals}
+use Rattle.zk_step.specs.Routing.{Signals, on_script}
 use Rattle.zk_vm.specs.declared.stop.Stop.{Stop}
 use Rattle.zk_vm.specs.declared.waiting.Waiting.{Waiting}
 use Rattle.zk_vm.specs.Answers.{Answer}
-use Rattle.zk_step.specs.Halves.{text_first, text_later}
 use Rattle.zk_vm.specs.Log.{Entry, IsPrefix, Move, OneLog, PartsJoin, PartsOnlyDivide, Passed, address_told, answer_in}
 use Rattle.zk_vm.specs.Log.{answers_in, goes_by, is_silent, moved, moved_by, part_shown, parted, parted_to, parts_by}
-use Rattle.zk_vm.specs.Log.{passed, stepped, stepped_to, text_left, text_shown, told, woven}
-use Rattle.zk_vm.specs.Log.Entry.{Scripted, Shown, Stopped}
+use Rattle.zk_vm.specs.Log.{passed, stepped, stepped_to, text_left, text_shown, told}
+use Rattle.zk_vm.specs.Log.Entry.{Shown, Stopped}
 use Rattle.zk_vm.specs.Log.Move.{Gets, Goes, Part}
 use Rattle.zk_vm.specs.Sessions.{Session}
 use Rattle.zk_vm.specs.Step.{State, Verdict, state_after, step, verdict_of}
 use Rattle.zk_vm.specs.Step.Verdict.{GoesOn, StopsBy, WaitsFor}
-use Rattle.zk_vm.proofs.Logs.{move_is, plain_agree, plain_move, plainly, prefix_on, says_script, says_step, woven_alone}
+use Rattle.zk_vm.proofs.Logs.{move_is, plain_agree, plain_move, plainly, prefix_on, says_step, says_told}
 
 -- ---- a text
 
-woven_divided : (n : ℕ) (xs ys : List Entry) → woven (take n xs) (take n ys) ++ woven (drop n xs)
-    (drop n ys) ≡ woven xs ys
-unfolding woven
-woven_divided zero xs ys = refl
-woven_divided (suc n) [] ys = take-append-drop (suc n) ys
-woven_divided (suc n) (x ∷ xs) [] = ap (λ (l : List Entry). x ∷ (take n xs ++ l)) (woven_alone (drop n xs))
-    ∙ ap (λ (l : List Entry). x ∷ l) (take-append-drop n xs)
-woven_divided (suc n) (x ∷ xs) (y ∷ ys) = ap (λ (l : List Entry). x ∷ y ∷ l) (woven_divided n xs ys)
-
-told_divided : (n : ℕ) (t : Signals) → told (text_first n t) ++ told (text_later n t) ≡ told t
-told_divided n t =
-    rw (
-      ← take-map Shown n t.screen,
-      ← take-map Scripted n t.script,
-      ← drop-map Shown n t.screen,
-      ← drop-map Scripted n t.script,
-    ) (woven_divided n (map Shown t.screen) (map Scripted t.script))
+told_divided : (n : ℕ) (t : Signals) → told (take n t) ++ told (drop n t) ≡ told t
+told_divided n t = rw (← take-map Shown n t, ← drop-map Shown n t) (take-append-drop n (told t))
 
 -- ---- a step
 
@@ -54,15 +38,15 @@ stays_divided s = record { entries = refl; to = refl }
 -- of a step that does not stop a part is shown
 shown_divided : (n : ℕ) (s : Session) (p : Passed) → p.entries ≡ address_told s.left s.state.pc
     ++ told (text_left s.left s.state) → moved s Goes ≡ p
-    → moved (record s { left = Some (text_later n (text_left s.left s.state)) }) Goes ≡ record p
-    { entries = told (text_later n (text_left s.left s.state)) }
+    → moved (record s { left = Some (drop n (text_left s.left s.state)) }) Goes ≡ record p
+    { entries = told (drop n (text_left s.left s.state)) }
     → Divides s (part_shown n s (text_left s.left s.state))
 shown_divided n s p all is rest =
     let text = text_left s.left s.state in
     let address = address_told s.left s.state.pc in
     record {
-      entries = ap (λ (q : Passed). (address ++ told (text_first n text)) ++ q.entries) rest
-          ∙ append_assoc address (told (text_first n text)) (told (text_later n text))
+      entries = ap (λ (q : Passed). (address ++ told (take n text)) ++ q.entries) rest
+          ∙ append_assoc address (told (take n text)) (told (drop n text))
           ∙ ap (λ (l : List Entry). address ++ l) (told_divided n text)
           ∙ sym all ∙ ap (λ (q : Passed). q.entries) (sym is);
       to = ap (λ (q : Passed). q.to) rest ∙ ap (λ (q : Passed). q.to) (sym is);
@@ -71,18 +55,18 @@ shown_divided n s p all is rest =
 -- so is one of a step that stops
 stop_divided : (n : ℕ) (s : Session) (stop : Stop) (t : State) → moved s Goes ≡ stepped_to s (StopsBy stop) t
     (text_left s.left s.state)
-    → moved (record s { left = Some (text_later n (text_left s.left s.state)) }) Goes ≡ stepped_to
-    (record s { left = Some (text_later n (text_left s.left s.state)) }) (StopsBy stop) t
-    (text_later n (text_left s.left s.state)) → Divides s (part_shown n s (text_left s.left s.state))
+    → moved (record s { left = Some (drop n (text_left s.left s.state)) }) Goes ≡ stepped_to
+    (record s { left = Some (drop n (text_left s.left s.state)) }) (StopsBy stop) t
+    (drop n (text_left s.left s.state)) → Divides s (part_shown n s (text_left s.left s.state))
 stop_divided n s stop t is rest =
     let text = text_left s.left s.state in
     let address = address_told s.left s.state.pc in
     let end = Stopped stop ∷ [] in
     record {
-      entries = ap (λ (q : Passed). (address ++ told (text_first n text)) ++ q.entries) rest
-          ∙ append_assoc address (told (text_first n text)) (told (text_later n text) ++ end)
+      entries = ap (λ (q : Passed). (address ++ told (take n text)) ++ q.entries) rest
+          ∙ append_assoc address (told (take n text)) (told (drop n text) ++ end)
           ∙ ap (λ (l : List Entry). address ++ l)
-          (sym (append_assoc (told (text_first n text)) (told (text_later n text)) end)
+          (sym (append_assoc (told (take n text)) (told (drop n text)) end)
           ∙ ap (λ (l : List Entry). l ++ end) (told_divided n text)) ∙ ap (λ (q : Passed). q.entries) (sym is);
       to = ap (λ (q : Passed). q.to) rest ∙ ap (λ (q : Passed). q.to) (sym is);
     }
@@ -93,18 +77,18 @@ part_divided : (silent : Bool) (n : ℕ) (s : Session) (v : Verdict) (t : State)
     (text_left left s.state)) → Divides s (parted_to silent n s v t (text_left s.left s.state))
 part_divided true n s GoesOn t is also =
     shown_divided n s (stepped_to s GoesOn t (text_left s.left s.state)) refl is
-    (also (Some (text_later n (text_left s.left s.state))))
+    (also (Some (drop n (text_left s.left s.state))))
 part_divided true n s (WaitsFor w) t is also =
     shown_divided n s (stepped_to s (WaitsFor w) t (text_left s.left s.state)) refl is
-    (also (Some (text_later n (text_left s.left s.state))))
+    (also (Some (drop n (text_left s.left s.state))))
 part_divided true n s (StopsBy stop) t is also =
-    stop_divided n s stop t is (also (Some (text_later n (text_left s.left s.state))))
+    stop_divided n s stop t is (also (Some (drop n (text_left s.left s.state))))
 part_divided false n s GoesOn t is also =
     shown_divided n s (stepped_to s GoesOn t (text_left s.left s.state)) refl is
-    (also (Some (text_later n (text_left s.left s.state))))
+    (also (Some (drop n (text_left s.left s.state))))
 part_divided false n s (WaitsFor w) t is also =
     shown_divided n s (stepped_to s (WaitsFor w) t (text_left s.left s.state)) refl is
-    (also (Some (text_later n (text_left s.left s.state))))
+    (also (Some (drop n (text_left s.left s.state))))
 part_divided false n s (StopsBy stop) t is also =
     let p = stepped_to s (StopsBy stop) t (text_left s.left s.state) in
     record {
@@ -140,18 +124,13 @@ parts_only_divide s n = let h = divided s n in (h.entries, h.to)
 
 -- ---- two parts
 
-firsts_joined : (n k : ℕ) (t : Signals) → told (text_first n t) ++ told (text_first k (text_later n t)) ≡ told
-    (text_first (n + k) t)
+firsts_joined : (n k : ℕ) (t : Signals) → told (take n t) ++ told (take k (drop n t)) ≡ told
+    (take (n + k) t)
 firsts_joined n k t =
-    rw (
-      take-take n (n + k) t.screen (omega arith),
-      take-take n (n + k) t.script (omega arith),
-      drop-take n k t.screen,
-      drop-take n k t.script,
-    ) at (told_divided n (text_first (n + k) t))
+    rw (take-take n (n + k) t (omega arith), drop-take n k t) at (told_divided n (take (n + k) t))
 
-later_joined : (n k : ℕ) (t : Signals) → text_later k (text_later n t) ≡ text_later (n + k) t
-later_joined n k t = rw (drop-drop k n t.screen, drop-drop k n t.script) refl
+later_joined : (n k : ℕ) (t : Signals) → drop k (drop n t) ≡ drop (n + k) t
+later_joined n k t = rw (drop-drop k n t) refl
 
 part_is : (n k : ℕ) (s : Session) → s.stopped ≡ None → s.waiting ≡ None → s.state.due ≡ []
     → s.limits.steps - s.state.steps ≡ k → moved s (Part n) ≡ parted n k s
@@ -166,12 +145,12 @@ stays_joined : (k : ℕ) (s : Session) (q : Passed) → moved s (Part k) ≡ q �
 stays_joined k s q is = record { entries = ap (λ (p : Passed). p.entries) is; to = ap (λ (p : Passed). p.to) is }
 
 shown_joined : (n k : ℕ) (s : Session) (text : Signals) → moved (part_shown n s text).to (Part k) ≡ part_shown k
-    (part_shown n s text).to (text_later n text) → Joins k (part_shown n s text) (part_shown (n + k) s text)
+    (part_shown n s text).to (drop n text) → Joins k (part_shown n s text) (part_shown (n + k) s text)
 shown_joined n k s text is =
     let address = address_told s.left s.state.pc in
     record {
-      entries = ap (λ (q : Passed). (address ++ told (text_first n text)) ++ q.entries) is
-          ∙ append_assoc address (told (text_first n text)) (told (text_first k (text_later n text)))
+      entries = ap (λ (q : Passed). (address ++ told (take n text)) ++ q.entries) is
+          ∙ append_assoc address (told (take n text)) (told (take k (drop n text)))
           ∙ ap (λ (l : List Entry). address ++ l) (firsts_joined n k text);
       to = ap (λ (q : Passed). q.to) is ∙ ap (λ (t : Signals). let x : Session = record s { left = Some t } in x)
           (later_joined n k text);
@@ -181,9 +160,9 @@ parted_joined : (silent : Bool) (n k : ℕ) (s : Session) (v : Verdict) (t : Sta
     → ((left : Signals) → moved (record s { left = Some left }) (Part k) ≡ parted_to silent k
     (record s { left = Some left }) v t left) → Joins k (parted_to silent n s v t text)
     (parted_to silent (n + k) s v t text)
-parted_joined true n k s v t text also = shown_joined n k s text (also (text_later n text))
-parted_joined false n k s GoesOn t text also = shown_joined n k s text (also (text_later n text))
-parted_joined false n k s (WaitsFor w) t text also = shown_joined n k s text (also (text_later n text))
+parted_joined true n k s v t text also = shown_joined n k s text (also (drop n text))
+parted_joined false n k s GoesOn t text also = shown_joined n k s text (also (drop n text))
+parted_joined false n k s (WaitsFor w) t text also = shown_joined n k s text (also (drop n text))
 parted_joined false n k s (StopsBy stop) t text also =
     record { entries = append-nil (stepped_to s (StopsBy stop) t text).entries; to = refl }
 
@@ -235,7 +214,7 @@ steps_alone (suc k) s =
 
 due_alone : (due : List ℕ) (s : Session) → answers_in (goes_by due s).entries ≡ []
 due_alone [] s = steps_alone (s.limits.steps - s.state.steps) s
-due_alone (c ∷ cs) s = (says_script (c ∷ cs)).alone
+due_alone (c ∷ cs) s = (says_told (on_script (c ∷ cs))).alone
 
 by_alone : (x : Option Stop) (y : Option Waiting) (s : Session) → answers_in (moved_by x y s Goes).entries ≡ []
 by_alone None None s = due_alone s.state.due s

@@ -210,7 +210,8 @@ answered_bounds s w a = bounds_by s w a (answered s w a) refl
 
 goes_bounds : (s : State) (x : Step) (f m : ℕ) → (most_f (state_after s x) ≡ most_f s)
     × (most_w (state_after s x) ≡ most_w s) → most_f s ≤ f → most_w s ≤ m
-    → (t : State) (text : Signals) → x ≡ GoesTo t text → (t.game.frames.most_frames ≤ f) × (t.game.frames.most_words ≤ m)
+    → (t : State) (text : Signals) → x ≡ GoesTo t text → (t.game.frames.most_frames ≤ f)
+    × (t.game.frames.most_words ≤ m)
 goes_bounds s x f m same few short t text e =
     let there : state_after s x ≡ t = ap (state_after s) e in
     let one : most_f t ≡ most_f s = sym (ap most_f there) ∙ same.0 in
@@ -287,18 +288,9 @@ shown_same f m Quits = refl
 shown_same f m (Faults e) = refl
 shown_same f m (Exceeds l) = refl
 
-empty_list : (l : List ℕ) → (length l == 0) ≡ true → l ≡ []
-empty_list [] h = refl
-empty_list (x ∷ l) h = absurd (grind (arith, nat_tests, h))
-
-silent_is : (t : Signals) (b c : Bool) → (length t.screen == 0) ≡ b → (length t.script == 0) ≡ c → (b && c) ≡ true
-    → t ≡ no_signals
-silent_is t true true e h k = rw (empty_list t.screen e, empty_list t.script h) refl
-silent_is t true false e h k = absurd cc
-silent_is t false c e h k = absurd cc
-
 silent_none : (t : Signals) → is_silent t ≡ true → t ≡ no_signals
-silent_none t h = silent_is t (length t.screen == 0) (length t.script == 0) refl refl h
+silent_none [] h = refl
+silent_none (x ∷ t) h = absurd (grind (arith, nat_tests, h))
 
 within_silent : (r : Result FrameList Refusal) (t : Signals) → t ≡ no_signals → text_within r t ≡ no_signals
 within_silent (Ok s) t h = h

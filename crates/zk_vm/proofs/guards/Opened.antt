@@ -1,6 +1,6 @@
 use Rattle.std.specs.Prelude.{⊤}
 use Rattle.zk_vm.specs.Step.{step}
-use Rattle.zk_vm.specs.Log.{passed, woven, parts_of, after}
+use Rattle.zk_vm.specs.Log.{passed, parts_of, after}
 use Rattle.zk_vm.specs.Sessions.{begun}
 use Rattle.zk_vm.specs.Inside.{goes_by_variable, loads_file, NoneLeaves}
 use Rattle.zk_code.specs.Clean.{leads_by_variable}
@@ -14,7 +14,7 @@ use Rattle.zk_step.specs.Printing.{printing, units_of, characters_of}
 use Rattle.zk_step.specs.Routines.{initial_values, routine_at, with_arguments, called, stored, returned, thrown}
 use Rattle.zk_step.specs.Routines.{call_effect, routine_effect}
 use Rattle.zk_code.specs.Routines.{count_at}
-use Rattle.zk_step.specs.Routing.{ends_line, script_is_on, routed, upper_printed}
+use Rattle.zk_step.specs.Routing.{ends_line, script_is_on, routed, streamed_all, style_shown, upper_printed}
 use Rattle.zk_step.specs.Streams.{newest_of}
 use Rattle.zk_step.specs.Variables.{named_read, named_written, variable_read, variable_written, indirect_read}
 use Rattle.zk_step.specs.Variables.{indirect_written, operand_read, operands_read}
@@ -60,10 +60,11 @@ use Rattle.zk_save.specs.Loading.{form_in, loaded, restored, put_in_place}
 
 -- the definitions that are opened in examples
 unfoldable pub examples : ⊤
-unfolding step passed woven parts_of after begun goes_by_variable loads_file NoneLeaves leads_by_variable
+unfolding step passed parts_of after begun goes_by_variable loads_file NoneLeaves leads_by_variable
     shifted_left shifted_right sign_shifted arithmetic equals_another comparison control effect_of
     continuation_after led gone gone_on finished carried_out printing units_of characters_of initial_values count_at
-    routine_at with_arguments called stored returned thrown call_effect routine_effect ends_line script_is_on routed
+    routine_at with_arguments called stored returned thrown call_effect routine_effect ends_line script_is_on
+    streamed_all style_shown routed
     newest_of named_read named_written variable_read variable_written indirect_read indirect_written operand_read
     operands_read code_byte code_word types_at with_types with_type_bytes extended_at head_by head_at operand_at
     operands_at store_at branch_by branch_here branch_at text_at instr_at two_operand one_operand zero_operand
@@ -81,10 +82,11 @@ examples = tt
 
 -- the definitions that are opened in saving examples
 unfoldable pub saving_examples : ⊤
-unfolding step passed woven after begun shifted_left shifted_right sign_shifted arithmetic equals_another
+unfolding step passed after begun shifted_left shifted_right sign_shifted arithmetic equals_another
     comparison control effect_of continuation_after led gone gone_on finished carried_out printing units_of
     characters_of initial_values count_at routine_at with_arguments called stored returned thrown call_effect
-    routine_effect ends_line script_is_on routed newest_of named_read named_written variable_read variable_written
+    routine_effect ends_line script_is_on streamed_all style_shown routed newest_of named_read named_written
+    variable_read variable_written
     indirect_read indirect_written operand_read operands_read code_byte code_word types_at with_types
     with_type_bytes extended_at head_by head_at operand_at operands_at store_at branch_by branch_here branch_at
     text_at instr_at two_operand one_operand zero_operand variable_operand extended name_of offset_target

@@ -1,9 +1,8 @@
 -- Taking operands takes words from the current routine's stack, and changes nothing else; nor does what is shown before
 -- a read change frames and memory.
-use Rattle.std.specs.Prelude.{if◌then◌else◌}
+use Rattle.std.specs.Prelude.{if◌then◌else◌, ◌==◌}
 use Rattle.std.proofs.Common.{◌≡◌, ◌∙◌, ℕ, ◌-◌, ◌≤◌, List, [], ◌∷◌, ◌++◌, length, Ok, refl, arith, nat_lt, Bool, true}
 use Rattle.std.proofs.Common.{false}
-use Rattle.std.specs.Prelude.{◌==◌}
 use Rattle.std.proofs.lemmas.List.{length-take}
 use Rattle.zk_state.specs.Frames.{FrameList, bounds_of, frames_of, popped, sizes_of, total_of}
 use Rattle.zk_code.specs.declared.operands.Operand.{Operand}

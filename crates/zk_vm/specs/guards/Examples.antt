@@ -14,11 +14,14 @@ use Rattle.zk_vm.specs.Calls.{locals_and_return}
 use Rattle.zk_vm.specs.Halts.{event_waited}
 use Rattle.zk_vm.specs.Inside.{NoneLeaves, leaves}
 use Rattle.zk_vm.specs.Log.{Entry, Move, addresses, after, answers_in, moved, parts_of, passed, reads_in, scripted}
-use Rattle.zk_vm.specs.Log.{shown, told}
-use Rattle.zk_vm.specs.Log.Entry.{Asked, At, Offered, Read, Scripted, Shown, Stopped}
+use Rattle.zk_vm.specs.Log.{shown, told, signals}
+use Rattle.zk_vm.specs.Log.Entry.{Asked, At, Offered, Read, Shown, Stopped}
 use Rattle.zk_vm.specs.Log.Move.{Gets, Goes, Part}
 use Rattle.zk_vm.specs.Sessions.{Session, begun, with_stop}
 use Rattle.zk_vm.specs.Plays.{codes_read}
+use Rattle.zk_step.specs.Routing.{on_screen, on_script}
+use Rattle.zk_term.specs.Signals.Signal.{Text, Script, Erase}
+use Rattle.zk_term.specs.Styles.{roman}
 
 -- a story of version 5 with its static base and its first instruction at 64, where this code stands
 abbrev pub story_of : List ℕ → List ℕ
@@ -38,7 +41,14 @@ log_of n s = passed (replicate n Goes) s
 
 -- a text on the screen
 abbrev pub shows : List ℕ → List Entry
-shows text = map Shown text
+shows text = told (on_screen text)
+
+-- a character on the screen, and one in the transcript
+abbrev pub letter : ℕ → Entry
+letter c = Shown (Text c roman)
+
+abbrev pub scripts : ℕ → Entry
+scripts c = Shown (Script c)
 
 -- at 64 `print` of "abc", and at 67 `quit`
 abbrev pub prints_and_quits : List ℕ
@@ -137,7 +147,7 @@ types line = Gets (Typed line) ∷ Goes ∷ Goes ∷ Goes ∷ []
 
 -- such a line is read, by the extra characters of the Standard, a character is shown for it, and the next read waits
 abbrev pub echo : List ℕ → ℕ → List Entry
-echo line c = Read None line ∷ At 68 ∷ Shown c ∷ At 71 ∷ At 64 ∷ []
+echo line c = Read None line ∷ At 68 ∷ letter c ∷ At 71 ∷ At 64 ∷ []
 
 -- each line answers one character: its first, and a new line where it has none
 abbrev pub LinesAnswerReads : Type 0
@@ -155,7 +165,7 @@ AnswersCountAnew =
     (passed (Goes ∷ types (codes "a") ++ types (codes "b")) (starts echoes (limits_of 1 1 3)) ≡ At 64
     ∷ echo (codes "a") 97 ++ echo (codes "b") 98)
     × (passed (Goes ∷ types (codes "a") ++ types (codes "b")) (starts echoes (limits_of 1 1 2)) ≡ At 64
-    ∷ Read None (codes "a") ∷ At 68 ∷ Shown 97 ∷ At 71 ∷ Stopped (Limit 64 Steps) ∷ [])
+    ∷ Read None (codes "a") ∷ At 68 ∷ letter 97 ∷ At 71 ∷ Stopped (Limit 64 Steps) ∷ [])
 
 -- a machine of a story that has answered so many reads
 abbrev pub after_reads : ℕ → Session → Session
@@ -227,7 +237,7 @@ scripts_once =
 
 -- a character on the screen, and then the same in the transcript
 abbrev pub on_both : ℕ → List Entry
-on_both c = Shown c ∷ Scripted c ∷ []
+on_both c = letter c ∷ scripts c ∷ []
 
 -- the transcript gets what is shown while it is on
 abbrev pub ScriptsGetText : Type 0
@@ -242,19 +252,11 @@ with_due line s = record s { state = record s.state { due = line } }
 abbrev pub DueTextComesFirst : Type 0
 DueTextComesFirst =
     (moved (with_due (codes "go") (starts prints_and_quits (limits_of 1 0 10)))
-    Goes ≡ record { entries = map Scripted (codes "go"); to = starts prints_and_quits (limits_of 1 0 10) })
-    × (log_of 2 (with_due (codes "go") (starts prints_and_quits (limits_of 1 0 10))) ≡ map Scripted (codes "go")
+    Goes ≡ record { entries = told (on_script (codes "go")); to = starts prints_and_quits (limits_of 1 0 10) })
+    × (log_of 2 (with_due (codes "go") (starts prints_and_quits (limits_of 1 0 10))) ≡ told (on_script (codes "go"))
     ++ At 64 ∷ shows (codes "abc"))
 
 -- ---- parts of a text
-
--- each character of the screen is followed by one of the transcript, and what one of them has more comes last
-abbrev pub DevicesTakeTurns : Type 0
-DevicesTakeTurns =
-    (told (record { screen = 97 ∷ 98 ∷ []; script = 99 ∷ 100 ∷ [] }) ≡ Shown 97 ∷ Scripted 99 ∷ Shown 98
-    ∷ Scripted 100 ∷ [])
-    × (told (record { screen = 97 ∷ 98 ∷ []; script = 99 ∷ [] }) ≡ Shown 97 ∷ Scripted 99 ∷ Shown 98 ∷ [])
-    × (told (record { screen = 97 ∷ []; script = 99 ∷ 100 ∷ [] }) ≡ Shown 97 ∷ Scripted 99 ∷ Scripted 100 ∷ [])
 
 -- a machine at the first `print` of "hi", where the transcript is on
 abbrev pub at_print : Session
@@ -264,14 +266,15 @@ at_print = after (Goes ∷ []) (starts scripts_once (limits_of 1 1 10))
 -- shown, and the rest with the step; past the end there is no more
 abbrev pub PartsAreShown : Type 0
 PartsAreShown =
-    (passed (Part 1 ∷ []) at_print ≡ At 67 ∷ on_both 104)
+    (passed (Part 1 ∷ []) at_print ≡ At 67 ∷ letter 104 ∷ [])
+    × (passed (Part 2 ∷ []) at_print ≡ At 67 ∷ on_both 104)
     × (passed (Part 1 ∷ Goes ∷ Goes ∷ []) at_print ≡ At 67 ∷ on_both 104 ++ on_both 105 ++ At 70 ∷ [])
-    × (passed (Goes ∷ []) (after (Part 1 ∷ []) at_print) ≡ on_both 105)
-    × (passed (Part 1 ∷ Part 1 ∷ []) at_print ≡ At 67 ∷ on_both 104 ++ on_both 105)
+    × (passed (Goes ∷ []) (after (Part 2 ∷ []) at_print) ≡ on_both 105)
+    × (passed (Part 1 ∷ Part 2 ∷ []) at_print ≡ At 67 ∷ on_both 104 ++ letter 105 ∷ [])
     × (passed (Part 5 ∷ []) at_print ≡ At 67 ∷ on_both 104 ++ on_both 105)
     × (passed (Part 5 ∷ Part 1 ∷ Goes ∷ Goes ∷ []) at_print ≡ At 67 ∷ on_both 104 ++ on_both 105 ++ At 70 ∷ [])
     × (passed (Part 0 ∷ []) at_print ≡ At 67 ∷ [])
-    × (passed (Part 0 ∷ Part 0 ∷ Part 1 ∷ []) at_print ≡ At 67 ∷ on_both 104)
+    × (passed (Part 0 ∷ Part 0 ∷ Part 2 ∷ []) at_print ≡ At 67 ∷ on_both 104)
     × (passed (Part 2 ∷ Goes ∷ []) (starts prints_and_quits (limits_of 1 0 10)) ≡ At 64 ∷ shows (codes "abc"))
     × (passed (Part 2 ∷ []) (starts prints_and_quits (limits_of 1 0 10)) ≡ At 64 ∷ shows (codes "ab"))
 
@@ -280,7 +283,7 @@ abbrev pub PartsMakeNoStep : Type 0
 PartsMakeNoStep =
     ((after (Part 1 ∷ []) at_print).state.pc ≡ 67)
     × ((after (Part 1 ∷ []) at_print).state.steps ≡ 1)
-    × ((after (Part 1 ∷ []) at_print).left ≡ Some (record { screen = 105 ∷ []; script = 105 ∷ [] }))
+    × ((after (Part 2 ∷ []) at_print).left ≡ Some (Text 105 roman ∷ Script 105 ∷ []))
     × ((after (Part 1 ∷ Goes ∷ []) at_print).state.pc ≡ 70)
     × ((after (Part 1 ∷ Goes ∷ []) at_print).state.steps ≡ 2)
     × ((after (Part 1 ∷ Goes ∷ []) at_print).left ≡ None)
@@ -330,12 +333,13 @@ OthersStay = NoneLeaves (replicate 3 Goes) (starts prints_and_quits (limits_of 1
 
 -- a log of all that may pass
 abbrev pub whole_log : List Entry
-whole_log = At 64 ∷ Shown 97 ∷ Scripted 98 ∷ Read (Some (228 ∷ [])) (99 ∷ []) ∷ At 71 ∷ Offered (1 ∷ []) true
-    ∷ Asked None None ∷ Shown 100 ∷ Stopped Quit ∷ []
+whole_log = At 64 ∷ letter 97 ∷ scripts 98 ∷ Read (Some (228 ∷ [])) (99 ∷ []) ∷ At 71 ∷ Offered (1 ∷ []) true
+    ∷ Asked None None ∷ Shown Erase ∷ letter 100 ∷ Stopped Quit ∷ []
 
 abbrev pub DevicesHaveParts : Type 0
 DevicesHaveParts =
     (addresses whole_log ≡ 64 ∷ 71 ∷ [])
+    × (signals whole_log ≡ Text 97 roman ∷ Script 98 ∷ Erase ∷ Text 100 roman ∷ [])
     × (shown whole_log ≡ codes "ad")
     × (scripted whole_log ≡ codes "b")
     × (answers_in whole_log ≡ Read (Some (228 ∷ [])) (99 ∷ []) ∷ Offered (1 ∷ []) true ∷ Asked None None ∷ [])

@@ -14,6 +14,8 @@ use Rattle.zk_vm.specs.Log.Entry.{Asked, At, Offered, Shown, Stopped}
 use Rattle.zk_vm.specs.Log.Move.{Gets, Goes}
 use Rattle.zk_vm.specs.Sessions.{Session}
 use Rattle.zk_vm.specs.Plays.{image_of}
+use Rattle.zk_term.specs.Signals.Signal.{Text}
+use Rattle.zk_term.specs.Styles.{roman}
 
 -- one frame, nine words, so many states to go back to, and so many instructions
 abbrev pub keeping : ℕ → ℕ → Limits
@@ -25,7 +27,7 @@ prints_digit = 0x54 ∷ 0 ∷ 48 ∷ 0 ∷ 0xe5 ∷ 0xbf ∷ 0 ∷ []
 
 -- they stand at an address, and a character is shown
 abbrev pub digit : ℕ → ℕ → List Entry
-digit a c = At a ∷ At (a + 4) ∷ Shown c ∷ []
+digit a c = At a ∷ At (a + 4) ∷ Shown (Text c roman) ∷ []
 
 -- at 64 `save_undo`, at 68 its answer is printed, at 75 `restore_undo`, at 79 its answer is printed, at 86 `quit`
 abbrev pub goes_back : List ℕ

@@ -1,12 +1,11 @@
 // A machine that pauses in the middle of an instruction's text.
 
 ghost use Rattle.std.specs.Prelude.{◌≡◌, ◌≤◌, ◌<◌, ◌+◌, ◌^◌, ◌⊎◌, true, false, [], ◌∷◌, ℕ, Some, None, Ok, Err, IfErr};
-ghost use Rattle.std.specs.Prelude.{IfOk, IfSome, MatchResult, OnOk, OnErr, OnSome};
+ghost use Rattle.std.specs.Prelude.{IfOk, IfSome, MatchResult, OnOk, OnErr, OnSome, length, option_copied};
 ghost use Rattle.std.specs.List.{AllByRecursion};
-ghost use Rattle.std.specs.Prelude.{length, option_copied};
 ghost use Rattle.zk_code.specs.Reading.{instr_at};
 ghost use Rattle.zk_step.specs.Halves.{IsHalf, ShowsSome, rest_text, text_due};
-ghost use Rattle.zk_step.specs.Routing.{Signals};
+ghost use Rattle.zk_step.specs.Routing.{Signals, on_script};
 ghost use Rattle.zk_vm.specs.Answers.{undone};
 ghost use Rattle.zk_text.specs.Extra.{is_input_code};
 ghost use Rattle.zk_vm.specs.Answers.Answer.{Typed, GameKept, File};
@@ -241,7 +240,7 @@ impl Machine {
     /// The transcript gets what it is still to get.
     fn get_due<S: Screen>(&mut self, screen: &mut S)
         ensures due { self.new ≡ told_due self.old }
-        ensures shown { S.shows screen.old screen.new [] self.old.state.due }
+        ensures shown { S.shows screen.old screen.new (on_script self.old.state.due) }
     {
         script_all(screen, self.due.as_slice());
         self.due.clear();
@@ -464,7 +463,7 @@ impl PausingMachine {
         requires free { self.old.waiting ≡ None }
         requires runs { self.old.stopped ≡ None }
         ensures due { self.new ≡ told_due self.old }
-        ensures shown { S.shows screen.old screen.new [] self.old.state.due }
+        ensures shown { S.shows screen.old screen.new (on_script self.old.state.due) }
     {
         self.machine.get_due(screen);
     }

@@ -4,7 +4,7 @@ ghost use Rattle.std.specs.Prelude.{◌≡◌, ◌↔◌, ◌≤◌, ◌<◌, �
 ghost use Rattle.std.specs.Prelude.{Ok, Err, IfErr, IfOk, IfSome, IsTrue, OnOk, OnSome, OnErr, MatchResult};
 ghost use Rattle.zk_state.specs.Frames.{IsBounded};
 ghost use Rattle.zk_code.specs.Reading.{instr_at};
-ghost use Rattle.zk_step.specs.Routing.{no_signals};
+ghost use Rattle.zk_step.specs.Routing.{no_signals, on_script};
 ghost use Rattle.zk_vm.specs.Going.{IsAhead, Settles};
 ghost use Rattle.zk_vm.specs.Halts.{IsKeeping, IsStep, KeepsState, event_waited};
 ghost use Rattle.zk_vm.specs.Laws.{IsWithin};

@@ -12,7 +12,7 @@ returns-then-has_failed-clause-logged g c =
     let ran = c.run-answer.ensures.logged in
     let ends = ran_part _ _ _ _ _ _ _ _ _ _ c.close.new.self _ _ _ _ ran ran.got.2 c.finish.ensures.written
     (record { screen = search rules; script = search rules; failed = search rules; either = search rules })
-    (record { screen = c.finish.ensures.no_signals; script = c.finish.ensures.no_script }) broken stopped free in
+    (record { screen = c.finish.ensures.no_text; script = c.finish.ensures.no_script }) broken stopped free in
     search (rules, ends)
 
 pub returns-clause-logged : goal.returns-clause-logged
@@ -24,7 +24,7 @@ returns-clause-logged g c =
     let goes = ran_whole _ _ _ _ _ _ _ _ _ _ _ _ _ _ ran c.run-answer.ensures.stops
     (λ f. f) ran.got.2 c.finish.ensures.written
     (record { screen = search rules; script = search rules; failed = search rules; either = search rules })
-    (record { screen = c.finish.ensures.no_signals; script = c.finish.ensures.no_script }) sound in
+    (record { screen = c.finish.ensures.no_text; script = c.finish.ensures.no_script }) sound in
     let x : g.S.Target.taken c.screen-1.given.0 ≡ g.S.Target.taken c.finish.new.self.screen.now = search rules in
     let y : g.T.Target.taken c.script-1.given.0 ≡ g.T.Target.taken c.finish.new.self.script.now = search rules in
     let z : g.S.Target.failed c.screen-1.given.0 ≡ g.S.Target.failed c.finish.new.self.screen.now = search rules in

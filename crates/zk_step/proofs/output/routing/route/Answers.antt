@@ -37,7 +37,11 @@ returns-in-Err-clause-value g c =
 
 pub returns-in-Ok-check-clause-value : goal.returns-in-Ok-check-clause-value
 unfolding routed
-returns-in-Ok-check-clause-value g c = rw c.in-Erasure.is (refl, inr (c.in-Ok-check.ensures.ok c.args.game.now.at_line_start))
+returns-in-Ok-check-clause-value g c = rw c.in-Erasure.is (
+  refl,
+  inr (c.in-Ok-check.ensures.ok
+      c.args.game.now.at_line_start),
+)
 
 pub returns-in-Ok-check-clause-text : goal.returns-in-Ok-check-clause-text
 unfolding routed
@@ -49,7 +53,11 @@ returns-in-Err-check-clause-value g c = rw c.in-Erasure.is (c.in-Err-check.ensur
 
 pub returns-in-Ok-check-2-clause-value : goal.returns-in-Ok-check-2-clause-value
 unfolding routed
-returns-in-Ok-check-2-clause-value g c = rw c.in-Bleep.is (refl, inr (c.in-Ok-check-2.ensures.ok c.args.game.now.at_line_start))
+returns-in-Ok-check-2-clause-value g c = rw c.in-Bleep.is (
+  refl,
+  inr (c.in-Ok-check-2.ensures.ok
+      c.args.game.now.at_line_start),
+)
 
 pub returns-in-Ok-check-2-clause-text : goal.returns-in-Ok-check-2-clause-text
 unfolding routed

@@ -24,9 +24,9 @@ returns-in-Err-clause-step c =
     let free = rw (← c.self.view_is) at c.requires.free in
     let fetched = rw (← c.self.view_is) at c.requires.fetched in
     let refused = keeps_refused c.self.inside.game c.args.i.now c.in-Err.fault c.in-Err.ensures.value in
-    let shows : Unit {0} → Unit {0} → List ℕ → List ℕ
-    → Type 0 = λ a b s t. let text : Signals = record { screen = s; script = t } in text ≡ no_signals in
-    let silent : text_in (limited_move (carried_out c.self.inside.game c.args.i.now)) ≡ no_signals = ap text_in refused in
+    let shows : Unit {0} → Unit {0} → Signals → Type 0 = λ a b text. text ≡ no_signals in
+    let silent : text_in (limited_move (carried_out c.self.inside.game c.args.i.now))
+    ≡ no_signals = ap text_in refused in
     rw (← c.self.view_is) (stepped_err shows tt tt c.self.inside _ c.args.i.now (Fault c.in-Err.fault) _ fetched
     refused c.halt.ensures.value free silent)
 
