@@ -78,7 +78,7 @@ rows_long (suc n) w =
       text_long w (suc n),
     )
 
-windows_long : (w : Windows) → length (windows_bytes w) ≤ 81860
+windows_long : (w : Windows) → length (windows_bytes w) ≤ 81861
 unfolding windows_bytes
 windows_long w = omega (arith, rows_long 255 w)
 

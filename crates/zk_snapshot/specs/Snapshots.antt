@@ -7,6 +7,7 @@ use Rattle.zk_state.specs.Frames.{Frame, frames_of}
 use Rattle.zk_save.specs.Quetzal.{bytes_2, bytes_4, words_bytes}
 use Rattle.zk_save.specs.States.{WholeState, packed_of}
 use Rattle.zk_term.specs.Windows.{Windows, row_text}
+use Rattle.zk_term.specs.declared.style.Style.{Style}
 use Rattle.zk_term.specs.declared.windows.Window.{Window}
 use Rattle.zk_term.specs.declared.windows.Window.TheVariants.{Lower, Upper as UpperWindow}
 use Rattle.zk_step.specs.declared.state.ending.Event.{Event}
@@ -54,7 +55,7 @@ name_bytes = 90 ∷ 75 ∷ 83 ∷ 78 ∷ []
 
 -- the version of the format
 abbrev pub version_byte : ℕ
-version_byte = 2
+version_byte = 3
 
 -- what a story's file is known by, in 18 bytes: its length, its release, its serial number, its checksum, and the sum
 -- of all its bytes
@@ -97,6 +98,10 @@ abbrev pub window_byte : Window → ℕ
 window_byte Lower = 0
 window_byte UpperWindow = 1
 
+-- a text style, by the number that sets it
+unfoldable pub style_byte : Style → ℕ
+style_byte s = truth_byte s.reverse + 2 * truth_byte s.bold + 4 * truth_byte s.italic + 8 * truth_byte s.fixed
+
 -- the random numbers, in 17 bytes
 unfoldable pub generators_bytes : Generators → List ℕ
 generators_bytes g = bytes_8 g.free ++ state_bytes g.predictable
@@ -110,9 +115,11 @@ unfoldable pub rows_bytes : ℕ → Windows → List ℕ
 rows_bytes zero w = []
 rows_bytes (suc n) w = rows_bytes n w ++ row_bytes (row_text w (suc n))
 
--- the upper window: its height, the cursor's row and column, the window that is selected, and all 255 rows
+-- the windows: the upper one's height, the cursor's row and column, the window that is selected, the text style, and all
+-- 255 rows
 unfoldable pub windows_bytes : Windows → List ℕ
-windows_bytes w = w.height ∷ [] ++ bytes_2 w.row ++ w.column ∷ [] ++ window_byte w.selected ∷ [] ++ rows_bytes 255 w
+windows_bytes w = w.height ∷ [] ++ bytes_2 w.row ++ w.column ∷ [] ++ window_byte w.selected ∷ []
+    ++ style_byte w.style ∷ [] ++ rows_bytes 255 w
 
 -- a frame: the address that it returns to, what takes its result, how many arguments it was given, how many local
 -- variables and words on its evaluation stack it has, and both
@@ -132,8 +139,8 @@ table_bytes t = bytes_2 t.address ++ bytes_2 t.count
 unfoldable pub streams_bytes : OutputStreams → List ℕ
 streams_bytes s = truth_byte s.screen ∷ length s.tables ∷ [] ++ flat_map table_bytes s.tables
 
--- the game state: the view, whether the screen's last line is empty, the output streams, the random numbers, the upper
--- window, dynamic memory as it stands, and the frames
+-- the game state: the view, whether the screen's last line is empty, the output streams, the random numbers, the
+-- windows, dynamic memory as it stands, and the frames
 unfoldable pub game_bytes : GameState → List ℕ
 game_bytes g = view_byte g.view ∷ truth_byte g.at_line_start ∷ [] ++ streams_bytes g.streams
     ++ generators_bytes g.generators ++ windows_bytes g.windows ++ take g.memory.static_base g.memory.bytes
@@ -189,4 +196,4 @@ HasSnapshot s = AsksForLine s
 -- the most bytes of a snapshot within limits, of a story with so many bytes of dynamic memory and with so many bytes of
 -- states: 255 rows of 80 characters and 16 tables are among the others
 unfoldable pub longest_of : Limits → (base most : ℕ) → ℕ
-longest_of l base most = 82007 + base + 10 * l.frames + 2 * l.words + most
+longest_of l base most = 82008 + base + 10 * l.frames + 2 * l.words + most

@@ -78,7 +78,7 @@ fn head_refusal(
     if part(bytes, 0, 4) != [90, 75, 83, 78].as_slice() {
         return Ok(Some(SnapshotError::NotASnapshot));
     }
-    if part(bytes, 4, 1) != [2].as_slice() {
+    if part(bytes, 4, 1) != [3].as_slice() {
         return Ok(Some(SnapshotError::OtherVersion));
     }
     let story = story_of(alloc, memory)?;

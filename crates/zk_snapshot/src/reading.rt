@@ -222,8 +222,8 @@ fn put_cursor(windows: &mut Windows, row: u16, column: u8)
     }
 }
 
-/// Fills an upper window that is new.
-#[tactic(auto, using(crate::proofs::Gone::split_gone, crate::proofs::Gone::select_gone))]
+/// Fills windows that are new.
+#[tactic(auto, using(crate::proofs::Gone::split_gone, crate::proofs::Gone::style_gone, crate::proofs::Gone::select_gone))]
 pub(crate) fn fill_windows(reader: &mut Reader<'_>, windows: &mut Windows)
     requires { windows.old ≡ first_windows }
     ensures { NothingGone windows.new }
@@ -232,7 +232,9 @@ pub(crate) fn fill_windows(reader: &mut Reader<'_>, windows: &mut Windows)
     let row = reader.word();
     let column = reader.byte();
     let upper = reader.truth();
+    let style = reader.byte();
     windows.split(4, height as u16);
+    windows.set_style(style as u16);
     if upper {
         windows.select(Window::Upper);
     }

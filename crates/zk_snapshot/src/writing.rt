@@ -6,7 +6,8 @@ ghost use Rattle.zk_save.specs.Quetzal.{bytes_2, bytes_4, words_bytes};
 ghost use Rattle.zk_state.specs.Frames.{frames_of};
 ghost use Rattle.std.specs.List.{flat_map};
 ghost use Rattle.zk_snapshot.specs.Snapshots.{bytes_8, truth_byte, store_bytes, state_bytes, story_bytes, limits_bytes};
-ghost use Rattle.zk_snapshot.specs.Snapshots.{place_bytes, event_bytes, view_byte, window_byte, generators_bytes};
+ghost use Rattle.zk_snapshot.specs.Snapshots.{place_bytes, event_bytes, view_byte, window_byte, style_byte};
+ghost use Rattle.zk_snapshot.specs.Snapshots.{generators_bytes};
 ghost use Rattle.zk_snapshot.specs.Snapshots.{row_bytes, rows_bytes, windows_bytes, frame_bytes, frames_bytes};
 ghost use Rattle.zk_snapshot.specs.Snapshots.{table_bytes, streams_bytes, game_bytes, head_bytes};
 
@@ -18,6 +19,7 @@ use zk_step::output::streams::{OpenTable, Streams};
 use zk_step::state::ending::Event;
 use zk_step::state::game_state::{GameState, View};
 use zk_step::state::random::Generators;
+use zk_term::style::Style;
 use zk_term::windows::{Window, Windows};
 use zk_vm::limits::Limits;
 use zk_vm::machine::parts::Place;
@@ -64,7 +66,8 @@ fn put_words(out: &mut Vec<u8>, words: &[u16]) -> Result<(), AllocError>
 
 /// 1 for a truth, 0 for a falsehood.
 fn truth_byte(truth: bool) -> u8
-    ensures { result ≡ truth_byte truth }
+    ensures value { result ≡ truth_byte truth }
+    ensures small { result ≤ 1 }
 {
     if truth { 1 } else { 0 }
 }
@@ -87,6 +90,17 @@ fn window_byte(window: Window) -> u8
         Window::Lower => 0,
         Window::Upper => 1,
     }
+}
+
+/// The number that sets a text style.
+#[tactic(auto, unfolding(crate::specs::Snapshots::style_byte))]
+fn style_byte(style: Style) -> u8
+    ensures { result ≡ style_byte style }
+{
+    truth_byte(style.reverse)
+        + 2 * truth_byte(style.bold)
+        + 4 * truth_byte(style.italic)
+        + 8 * truth_byte(style.fixed)
 }
 
 /// Writes the variable that takes a result.
@@ -150,7 +164,7 @@ pub(crate) fn put_head(out: &mut Vec<u8>, memory: &Memory) -> Result<(), AllocEr
     ensures { OnOk result (out.new.items ≡ out.old.items ++ head_bytes memory.now.file) }
 {
     out.extend_from_slice(&[90, 75, 83, 78])?;
-    out.push(2)?;
+    out.push(3)?;
     put_story(out, memory)?;
     Ok(())
 }
@@ -226,7 +240,7 @@ fn put_rows(out: &mut Vec<u8>, windows: &Windows) -> Result<(), AllocError>
     Ok(())
 }
 
-/// Writes the upper window.
+/// Writes the windows.
 #[tactic(auto, unfolding(crate::specs::Snapshots::windows_bytes))]
 fn put_windows(out: &mut Vec<u8>, windows: &Windows) -> Result<(), AllocError>
     ensures { OnOk result (out.new.items ≡ out.old.items ++ windows_bytes windows.now) }
@@ -236,6 +250,7 @@ fn put_windows(out: &mut Vec<u8>, windows: &Windows) -> Result<(), AllocError>
     put_2(out, row)?;
     out.push(column)?;
     out.push(window_byte(windows.selected()))?;
+    out.push(style_byte(windows.style()))?;
     put_rows(out, windows)?;
     Ok(())
 }

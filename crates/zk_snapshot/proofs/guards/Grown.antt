@@ -11,6 +11,7 @@ use Rattle.zk_state.specs.Frames.{Frame}
 use Rattle.zk_term.specs.Grid.{Cells, no_cells}
 use Rattle.zk_term.specs.GridCode.{is_on_grid-true, same_cells}
 use Rattle.zk_term.specs.Windows.{Windows, before_blanks, columns_from, forgotten, row_text, without_last_blanks}
+use Rattle.zk_term.specs.declared.style.Style.{Style}
 use Rattle.zk_term.specs.declared.windows.Window.{Window}
 use Rattle.zk_snapshot.specs.Snapshots.{store_bytes, row_bytes, rows_bytes, frame_bytes, frames_bytes}
 use Rattle.zk_snapshot.proofs.Codes.{cons_head, cons_tail, split_same, same_2, same_4, same_store, store_size}
@@ -123,21 +124,22 @@ cells_same w v h = same_cells w.cells v.cells (λ row column on.
     cell_same w v row column (row_of_rows 255 w v row h there.row_from there.row_to) there.column_from there.column_to)
 
 pub windows_same : (w v : Windows) → w.cells ≡ v.cells → w.height ≡ v.height → w.row ≡ v.row → w.column ≡ v.column
-    → w.selected ≡ v.selected → forgotten w ≡ forgotten v
+    → w.selected ≡ v.selected → w.style ≡ v.style → forgotten w ≡ forgotten v
 unfolding forgotten
-windows_same w v cells height row column selected =
-    made_same w.cells v.cells w.height v.height w.row v.row w.column v.column w.selected v.selected cells height row
-    column selected
+windows_same w v cells height row column selected style =
+    made_same w.cells v.cells w.height v.height w.row v.row w.column v.column w.selected v.selected w.style v.style
+    cells height row column selected style
   where
-    made : Cells → ℕ → ℕ → ℕ → Window → Windows
-    made c h r k s =
-        record { cells = c; height = h; row = r; column = k; selected = s; gone = no_cells; gone_height = 0 }
+    made : Cells → ℕ → ℕ → ℕ → Window → Style → Windows
+    made c h r k s y =
+        record { cells = c; height = h; row = r; column = k; selected = s; style = y; gone = no_cells; gone_height = 0 }
 
-    made_same : (c d : Cells) (h i r q k l : ℕ) (s t : Window) → c ≡ d → h ≡ i → r ≡ q → k ≡ l → s ≡ t
-        → made c h r k s ≡ made d i q l t
-    made_same c d h i r q k l s t e1 e2 e3 e4 e5 = ap (λ (x : Cells). made x h r k s) e1
-        ∙ ap (λ (x : ℕ). made d x r k s) e2 ∙ ap (λ (x : ℕ). made d i x k s) e3 ∙ ap (λ (x : ℕ). made d i q x s) e4
-        ∙ ap (λ (x : Window). made d i q l x) e5
+    made_same : (c d : Cells) (h i r q k l : ℕ) (s t : Window) (y z : Style) → c ≡ d → h ≡ i → r ≡ q → k ≡ l → s ≡ t
+        → y ≡ z → made c h r k s y ≡ made d i q l t z
+    made_same c d h i r q k l s t y z e1 e2 e3 e4 e5 e6 = ap (λ (x : Cells). made x h r k s y) e1
+        ∙ ap (λ (x : ℕ). made d x r k s y) e2 ∙ ap (λ (x : ℕ). made d i x k s y) e3
+        ∙ ap (λ (x : ℕ). made d i q x s y) e4 ∙ ap (λ (x : Window). made d i q l x y) e5
+        ∙ ap (λ (x : Style). made d i q l t x) e6
 
 -- ---- frames
 

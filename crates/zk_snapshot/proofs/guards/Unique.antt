@@ -9,13 +9,15 @@ use Rattle.zk_mem.specs.Header.{header_of}
 use Rattle.zk_mem.specs.declared.fault.Fault.{Fault}
 use Rattle.zk_code.specs.declared.instr.Instr.{Instr}
 use Rattle.zk_code.specs.Reading.{instr_at}
-use Rattle.zk_step.specs.Routing.{Texts}
+use Rattle.zk_step.specs.Routing.{Signals}
 use Rattle.zk_vm.specs.declared.stop.Stop.{Stop}
 use Rattle.zk_mem.specs.Map.{MemoryMap, IsOfFile}
 use Rattle.zk_save.specs.Quetzal.{bytes_2, bytes_4}
 use Rattle.zk_save.specs.States.{WholeState}
 use Rattle.zk_state.specs.Frames.{Frame, FrameList, bounds_of, frames_of}
 use Rattle.zk_term.specs.Windows.{Windows, forgotten}
+use Rattle.zk_term.specs.Styles.{roman, style_set}
+use Rattle.zk_term.specs.declared.style.Style.{Style}
 use Rattle.zk_term.specs.declared.windows.Window.{Window}
 use Rattle.zk_term.specs.declared.windows.Window.TheVariants as window
 use Rattle.zk_step.specs.Streams.{OutputStreams}
@@ -37,6 +39,7 @@ use Rattle.zk_snapshot.specs.Laws.{without_gone, with_kept, newest, IsKept, IsOf
 use Rattle.zk_snapshot.specs.Sums.{sum_of}
 use Rattle.zk_snapshot.specs.Snapshots.{bytes_8, truth_byte, store_bytes, state_bytes, limits_bytes, place_bytes}
 use Rattle.zk_snapshot.specs.Snapshots.{event_bytes, asking_bytes, view_byte, window_byte, generators_bytes, rows_bytes}
+use Rattle.zk_snapshot.specs.Snapshots.{style_byte}
 use Rattle.zk_snapshot.specs.Snapshots.{windows_bytes, frames_bytes, table_bytes, streams_bytes, game_bytes}
 use Rattle.zk_snapshot.specs.Snapshots.{states_bytes, head_bytes, body_bytes, snapshot_with}
 use Rattle.zk_snapshot.proofs.Codes.{cons_head, cons_tail, split_same, same_2, same_4, same_8, same_store, store_size}
@@ -216,7 +219,32 @@ same_generators g k h =
     joined : (f g : ℕ) (p q : Option ℕ) → f ≡ g → p ≡ q → made f p ≡ made g q
     joined f g p q e1 e2 = ap (λ (x : ℕ). made x p) e1 ∙ ap (λ (x : Option ℕ). made g x) e2
 
--- ---- the upper window
+-- ---- the windows
+
+-- a style is the one that its number sets
+style_back : (a b c d : Bool) → style_set (style_byte (record { reverse = a; bold = b; italic = c; fixed = d })) roman
+    ≡ record { reverse = a; bold = b; italic = c; fixed = d }
+unfolding style_byte
+style_back false false false false = refl
+style_back true false false false = refl
+style_back false true false false = refl
+style_back true true false false = refl
+style_back false false true false = refl
+style_back true false true false = refl
+style_back false true true false = refl
+style_back true true true false = refl
+style_back false false false true = refl
+style_back true false false true = refl
+style_back false true false true = refl
+style_back true true false true = refl
+style_back false false true true = refl
+style_back true false true true = refl
+style_back false true true true = refl
+style_back true true true true = refl
+
+same_style : (s t : Style) → style_byte s ≡ style_byte t → s ≡ t
+same_style s t h = sym (style_back s.reverse s.bold s.italic s.fixed) ∙ ap (λ (n : ℕ). style_set n roman) h
+    ∙ style_back t.reverse t.bold t.italic t.fixed
 
 same_windows : (w v : Windows) (a b : List ℕ) → windows_bytes w ++ a ≡ windows_bytes v ++ b
     → (forgotten w ≡ forgotten v) × (a ≡ b)
@@ -224,18 +252,22 @@ unfolding windows_bytes
 same_windows w v a b h =
     let r = rows_bytes 255 w ++ a in
     let q = rows_bytes 255 v ++ b in
-    let height = cons_head w.height v.height (bytes_2 w.row ++ (w.column ∷ window_byte w.selected ∷ r))
-    (bytes_2 v.row ++ (v.column ∷ window_byte v.selected ∷ q)) h in
-    let one = cons_tail w.height v.height (bytes_2 w.row ++ (w.column ∷ window_byte w.selected ∷ r))
-    (bytes_2 v.row ++ (v.column ∷ window_byte v.selected ∷ q)) h in
-    let row = split_same (bytes_2 w.row) (bytes_2 v.row) (w.column ∷ window_byte w.selected ∷ r)
-    (v.column ∷ window_byte v.selected ∷ q) refl one in
-    let column = cons_head w.column v.column (window_byte w.selected ∷ r) (window_byte v.selected ∷ q) row.1 in
-    let two = cons_tail w.column v.column (window_byte w.selected ∷ r) (window_byte v.selected ∷ q) row.1 in
+    let x = style_byte w.style ∷ r in
+    let y = style_byte v.style ∷ q in
+    let height = cons_head w.height v.height (bytes_2 w.row ++ (w.column ∷ window_byte w.selected ∷ x))
+    (bytes_2 v.row ++ (v.column ∷ window_byte v.selected ∷ y)) h in
+    let one = cons_tail w.height v.height (bytes_2 w.row ++ (w.column ∷ window_byte w.selected ∷ x))
+    (bytes_2 v.row ++ (v.column ∷ window_byte v.selected ∷ y)) h in
+    let row = split_same (bytes_2 w.row) (bytes_2 v.row) (w.column ∷ window_byte w.selected ∷ x)
+    (v.column ∷ window_byte v.selected ∷ y) refl one in
+    let column = cons_head w.column v.column (window_byte w.selected ∷ x) (window_byte v.selected ∷ y) row.1 in
+    let two = cons_tail w.column v.column (window_byte w.selected ∷ x) (window_byte v.selected ∷ y) row.1 in
     let selected = same_window w.selected v.selected
-    (cons_head (window_byte w.selected) (window_byte v.selected) r q two) in
-    let rows = same_rows 255 w v a b (cons_tail (window_byte w.selected) (window_byte v.selected) r q two) in
-    (windows_same w v (cells_same w v rows.0) height (same_2 w.row v.row row.0) column selected, rows.1)
+    (cons_head (window_byte w.selected) (window_byte v.selected) x y two) in
+    let three = cons_tail (window_byte w.selected) (window_byte v.selected) x y two in
+    let style = same_style w.style v.style (cons_head (style_byte w.style) (style_byte v.style) r q three) in
+    let rows = same_rows 255 w v a b (cons_tail (style_byte w.style) (style_byte v.style) r q three) in
+    (windows_same w v (cells_same w v rows.0) height (same_2 w.row v.row row.0) column selected style, rows.1)
 
 -- ---- frames
 
@@ -454,7 +486,7 @@ same_waiting (Some w) (Some v) m n p q h e f same there =
     joined e f i j h k = ap (λ (z : Event). made z i) h ∙ ap (λ (z : Instr). made f z) k
 
 abbrev whole_of : GameState → Place → List ℕ → List WholeState → Limits → Option Waiting → Option Stop
-    → Option Texts → Session
+    → Option Signals → Session
 whole_of g p d u l w s left =
     record {
       state = record { game = g; pc = p.pc; steps = p.steps; reads = p.reads; due = d; undo = u };
@@ -465,13 +497,13 @@ whole_of g p d u l w s left =
     }
 
 plays_joined : (g k : GameState) (p q : Place) (d e : List ℕ) (u x : List WholeState) (l m : Limits)
-    (w v : Option Waiting) (s t : Option Stop) (a b : Option Texts) → g ≡ k → p ≡ q → d ≡ e → u ≡ x → l ≡ m → w ≡ v
+    (w v : Option Waiting) (s t : Option Stop) (a b : Option Signals) → g ≡ k → p ≡ q → d ≡ e → u ≡ x → l ≡ m → w ≡ v
     → s ≡ t → a ≡ b → whole_of g p d u l w s a ≡ whole_of k q e x m v t b
 plays_joined g k p q d e u x l m w v s t a b e1 e2 e3 e4 e5 e6 e7 e8 =
     ap (λ (y : GameState). whole_of y p d u l w s a) e1 ∙ ap (λ (y : Place). whole_of k y d u l w s a) e2
     ∙ ap (λ (y : List ℕ). whole_of k q y u l w s a) e3 ∙ ap (λ (y : List WholeState). whole_of k q e y l w s a) e4
     ∙ ap (λ (y : Limits). whole_of k q e x y w s a) e5 ∙ ap (λ (y : Option Waiting). whole_of k q e x m y s a) e6
-    ∙ ap (λ (y : Option Stop). whole_of k q e x m v y a) e7 ∙ ap (λ (y : Option Texts). whole_of k q e x m v t y) e8
+    ∙ ap (λ (y : Option Stop). whole_of k q e x m v y a) e7 ∙ ap (λ (y : Option Signals). whole_of k q e x m v t y) e8
 
 same_play : (us vs : List WholeState) (a b : Session) → IsKept a → IsKept b
     → a.state.game.memory.file ≡ b.state.game.memory.file → All (HasBytes a.state.game.memory.static_base) us
