@@ -76,10 +76,11 @@ typedef struct zkit_options {
     uint32_t room;   /* the story pauses when this many bytes of text wait: 1 to 2,147,483,647 */
     uint32_t upper;  /* if not 0, the text includes the status line and the upper window, on lines of their own, before
                         each read. Leave it 0 if you draw them yourself, with zkit_window_of and zkit_status_line */
+    uint32_t styles; /* if not 0, the library keeps the style of the text for zkit_next_run */
 } zkit_options;
 
 /* Sets each field within `options->size` to the value that zkit_open uses without options: seed 1, the limits above,
- * and no upper window. If the size does not include all fields up to `upper`, sets none. */
+ * no upper window and no styles. If the size does not include all fields up to `upper`, sets none. */
 void zkit_defaults(zkit_options *options);
 
 /* Why zkit_open and zkit_open_snapshot open nothing. */
@@ -227,6 +228,42 @@ size_t zkit_text(zkit *game, uint8_t *buffer, size_t length);
 /* The same for the text of the transcript, which the story can turn on and off. */
 size_t zkit_transcript(zkit *game, uint8_t *buffer, size_t length);
 
+/* The style of a run of text: a sum of these, or 0 for roman. */
+enum {
+    ZKIT_REVERSE = 1,
+    ZKIT_BOLD = 2,
+    ZKIT_ITALIC = 4,
+    ZKIT_FIXED = 8              /* with a fixed pitch */
+};
+
+/* What came before a run of text: a sum of these. */
+enum {
+    ZKIT_ERASED = 16,           /* the story erased the window below the upper one */
+    ZKIT_HIGH_BLEEP = 32,       /* a high bleep sounded */
+    ZKIT_LOW_BLEEP = 64         /* a low bleep sounded */
+};
+
+/* A run: the next bytes of the screen's text that have one style. */
+typedef struct zkit_run {
+    size_t size;                /* sizeof (zkit_run) */
+    size_t length;              /* how many bytes: 0 if no text is left */
+    uint32_t style;             /* how they are shown */
+    uint32_t before;            /* what came before them; if no text is left, after the last text */
+} zkit_run;
+
+/* Describes the next run of the screen's text, for a game with the option `styles`; then take its bytes with zkit_text.
+ * What came before a run is told once. If `length` and `before` are 0, nothing is left. Without the option all text is
+ * one run, in roman. If you take more bytes than the run has, what came before the others is not told.
+ *
+ *     do {
+ *         zkit_next_run(game, &run);
+ *         ... erase the window or sound a bleep, as run.before says
+ *         ... take run.length bytes with zkit_text, and show them as run.style says
+ *     } while (run.length > 0);
+ *
+ * If the size does not include all fields up to `before`, sets none. */
+void zkit_next_run(zkit *game, zkit_run *run);
+
 /* Why the story has stopped, as the last turn found: ZKIT_RUNS if it has not. */
 uint32_t zkit_status(const zkit *game);
 
@@ -312,7 +349,7 @@ uint32_t zkit_snapshot(zkit *game, uint8_t *buffer, size_t length, size_t *neede
 uint32_t zkit_snapshot_with_undo(zkit *game, size_t undo_bytes, uint8_t *buffer, size_t length, size_t *needed);
 
 /* The most bytes that a snapshot of the game can have, now or later, with this many bytes of undo states: 0 for
- * zkit_snapshot. It is 82,007, plus the story's dynamic memory (less than 65,536), plus 10 for each frame and 2 for
+ * zkit_snapshot. It is 82,008, plus the story's dynamic memory (less than 65,536), plus 10 for each frame and 2 for
  * each word that the limits allow, plus undo_bytes; or SIZE_MAX if that is less. */
 size_t zkit_longest_snapshot(const zkit *game, size_t undo_bytes);
 

@@ -21,6 +21,15 @@ void zk_close(struct zk_handle *game);
 uint32_t zk_turn(struct zk_handle *game, uint32_t steps, uint32_t room);
 size_t zk_text(struct zk_handle *game, uint8_t *buffer, size_t length);
 size_t zk_transcript(struct zk_handle *game, uint8_t *buffer, size_t length);
+/* keeps the style of the screen's text from now on, if none waits */
+void zk_keep_styles(struct zk_handle *game);
+/* how the first bytes of the screen's text are shown, and what came before them */
+struct zk_run {
+    size_t length;
+    uint32_t style;
+    uint32_t before;
+};
+void zk_next_run(struct zk_handle *game, struct zk_run *run);
 uint32_t zk_status(struct zk_handle *game);
 uint32_t zk_reason(struct zk_handle *game);
 uint32_t zk_address(struct zk_handle *game);

@@ -53,19 +53,29 @@ uint32_t zkit_version(void) {
 #define END(type, field) (offsetof(type, field) + sizeof((type *)NULL)->field)
 
 static const zkit_options default_options = {
-    sizeof(zkit_options), 1, ZKIT_FRAMES, ZKIT_WORDS, ZKIT_UNDO, ZKIT_STEPS, ZKIT_ROOM, 0,
+    sizeof(zkit_options), 1, ZKIT_FRAMES, ZKIT_WORDS, ZKIT_UNDO, ZKIT_STEPS, ZKIT_ROOM, 0, 0,
 };
 
 static int has_options(const zkit_options *options) {
     return options->size >= END(zkit_options, upper);
 }
 
+/* Sets the fields within a size to those of other options. */
+static void set_options(zkit_options *options, const zkit_options *others, size_t size) {
+    options->seed = others->seed;
+    options->frames = others->frames;
+    options->words = others->words;
+    options->undo = others->undo;
+    options->steps = others->steps;
+    options->room = others->room;
+    options->upper = others->upper;
+    if (size >= END(zkit_options, styles))
+        options->styles = others->styles;
+}
+
 void zkit_defaults(zkit_options *options) {
-    size_t size = options->size;
-    if (!has_options(options))
-        return;
-    *options = default_options;
-    options->size = size;
+    if (has_options(options))
+        set_options(options, &default_options, options->size);
 }
 
 /* The options that a program gives, or the defaults where it gives none. Those of a size that is too small get no room,
@@ -73,7 +83,7 @@ void zkit_defaults(zkit_options *options) {
 static zkit_options whole_options(const zkit_options *given) {
     zkit_options whole = default_options;
     if (given && has_options(given))
-        whole = *given;
+        set_options(&whole, given, given->size);
     else if (given)
         whole.room = 0;
     return whole;
@@ -86,14 +96,16 @@ static int has_room(const zkit_options *options) {
 }
 
 /* A game with a play, or null where there is none: tells why, or that there is no memory for it. */
-static zkit *game_with(struct zk_handle *play, uint32_t refused, uint32_t room, uint32_t *reason) {
+static zkit *game_with(struct zk_handle *play, uint32_t refused, const zkit_options *options, uint32_t *reason) {
     zkit *game = NULL;
     if (refused == ZKIT_OPENED) {
         struct rattle_block block = rattle_alloc(sizeof(zkit), sizeof(void *));
         if (block.is_there) {
             game = block.at;
             game->play = *play;
-            game->room = room;
+            game->room = options->room;
+            if (options->styles)
+                zk_keep_styles(&game->play);
         } else {
             zk_close(play);
             refused = ZKIT_OPEN_NO_MEMORY;
@@ -111,7 +123,7 @@ zkit *zkit_open(const uint8_t *story, size_t length, const zkit_options *options
     if (has_room(&whole))
         refused = zk_open(&play, bytes_at(story), length, whole.seed, whole.frames, whole.words, whole.undo,
                           whole.steps, whole.upper);
-    return game_with(&play, refused, whole.room, reason);
+    return game_with(&play, refused, &whole, reason);
 }
 
 /* The options by which a snapshot is opened: without any its limits may be as great as limits can be. */
@@ -134,7 +146,7 @@ zkit *zkit_open_snapshot(const uint8_t *story, size_t length, const uint8_t *sna
     if (has_room(&whole))
         refused = zk_open_snapshot(&play, bytes_at(story), length, bytes_at(snapshot), snapshot_length, whole.frames,
                                    whole.words, whole.undo, whole.steps);
-    return game_with(&play, refused, whole.room, reason);
+    return game_with(&play, refused, &whole, reason);
 }
 
 void zkit_close(zkit *game) {
@@ -160,6 +172,16 @@ size_t zkit_text(zkit *game, uint8_t *buffer, size_t length) {
 
 size_t zkit_transcript(zkit *game, uint8_t *buffer, size_t length) {
     return zk_transcript(&game->play, buffer_at(buffer), length);
+}
+
+void zkit_next_run(zkit *game, zkit_run *run) {
+    struct zk_run told = {0, 0, 0};
+    if (run->size < END(zkit_run, before))
+        return;
+    zk_next_run(play_of(game), &told);
+    run->length = told.length;
+    run->style = told.style;
+    run->before = told.before;
 }
 
 uint32_t zkit_status(const zkit *game) {

@@ -16,10 +16,19 @@
  * @property {number} [steps]
  * @property {number} [room]
  * @property {boolean} [upper]
+ * @property {boolean} [styles]  keeps the style of the text, for `nextRun` and `runs`
  */
 
 /** @typedef {{height: number, tallest: number, row: number, column: number, selected: boolean}} Window */
 /** @typedef {{kind: "score"|"time", name: string, first: number, second: number}} StatusLine */
+/** @typedef {"reverse"|"bold"|"italic"|"fixed"} Style */
+/** @typedef {"erased"|"high bleep"|"low bleep"} Before */
+
+/**
+ * A part of the screen's text that has one style, and what came before it.
+ * @typedef {{text: string, styles: Style[], before: Before[]}} Run
+ */
+
 /** @typedef {{version: number, release: number, checksum: number, serial: string}} Story */
 
 /**
@@ -38,6 +47,7 @@
  * @property {(game: bigint, steps: number) => number} zkit_turn_for
  * @property {Taking} zkit_text
  * @property {Taking} zkit_transcript
+ * @property {(game: bigint, run: bigint) => void} zkit_next_run
  * @property {(game: bigint) => number} zkit_status
  * @property {(game: bigint) => number} zkit_reason
  * @property {(game: bigint) => number} zkit_address
@@ -104,7 +114,14 @@ const LONGEST_STORY = 524_289;
 const BUFFER = 16_384;
 
 // The sizes of the structs of zkit.h, and of the field `size` that each begins with.
-const OPTIONS_SIZE = 40;
+const OPTIONS_SIZE = 48;
+const RUN_SIZE = 24;
+
+/** What the bits of a run's style and of what came before it say, from the lowest on. */
+/** @type {Style[]} */
+const STYLES = ["reverse", "bold", "italic", "fixed"];
+/** @type {Before[]} */
+const BEFORE = ["erased", "high bleep", "low bleep"];
 const WINDOW_SIZE = 32;
 const FIGURES_SIZE = 24;
 const STORY_SIZE = 32;
@@ -303,6 +320,7 @@ export class Module {
                 view.setUint32(16 + 4 * i, whole(number), true);
         });
         view.setUint32(36, options.upper ? 1 : 0, true);
+        view.setUint32(40, options.styles ? 1 : 0, true);
         return at;
     }
 
@@ -384,19 +402,54 @@ export class Game {
         return this.taken(this.calls.zkit_text);
     }
 
+    /** How many bytes the next run of the screen's text has, its styles, and what came before it, which is told once.
+        */
+    nextRun() {
+        this.sized(RUN_SIZE);
+        this.calls.zkit_next_run(this.at, this.buffer);
+        const view = this.module.view(this.buffer, RUN_SIZE);
+        const style = view.getUint32(16, true);
+        const before = view.getUint32(20, true);
+        return {
+            length: Number(view.getBigUint64(8, true)),
+            styles: STYLES.filter((_, i) => style >> i & 1),
+            before: BEFORE.filter((_, i) => before >> i + STYLES.length & 1),
+        };
+    }
+
+    /**
+     * All text that waits, run by run, of a game with the option `styles`. The last run may have no text, and tell what
+     * came after the text.
+     * @returns {Run[]}
+     */
+    runs() {
+        const runs = [];
+        for (;;) {
+            const { length, styles, before } = this.nextRun();
+            if (length === 0 && before.length === 0)
+                return runs;
+            const text = this.decoder.decode(this.taken(this.calls.zkit_text, length), { stream: true });
+            runs.push({ text, styles, before });
+        }
+    }
+
     transcriptBytes() {
         return this.taken(this.calls.zkit_transcript);
     }
 
     /**
-     * All bytes that a call gives part by part.
+     * All bytes that a call gives part by part, or so many at most.
      * @param {Taking} take
+     * @param {number} [most]
      */
-    taken(take) {
+    taken(take, most = Infinity) {
         const parts = [];
+        let left = most;
         let count;
-        while ((count = take(this.at, this.buffer, BigInt(BUFFER))) > 0n)
+        while ((count = take(this.at, this.buffer, BigInt(Math.min(BUFFER, left)))) > 0n) {
             parts.push(this.module.bytes(this.buffer, Number(count)).slice());
+            left -= Number(count);
+        }
         return joined(parts);
     }
 

@@ -290,6 +290,7 @@ static void tell_defaults(void) {
     say("steps", options.steps);
     say("room", options.room);
     say("upper", options.upper);
+    say("styles", options.styles);
 }
 
 /* Why no game is opened from a snapshot of no bytes. */
@@ -425,6 +426,52 @@ static void use_upper(void) {
     run_with("with it by another number", code, sizeof code, &options);
 }
 
+/* Describes the next run, and shows as many bytes of it. */
+static size_t show_run(zkit *game, size_t most) {
+    zkit_run run = {.size = sizeof run, .length = 9, .style = 9, .before = 9};
+    uint8_t text[16];
+    zkit_next_run(game, &run);
+    size_t count = zkit_text(game, text, run.length < most ? run.length : most);
+    printf("  run: %u bytes, style %u, before %u: %.*s\n", (unsigned)run.length, (unsigned)run.style,
+           (unsigned)run.before, (int)count, (const char *)text);
+    return run.length + run.before;
+}
+
+/* Text has its style, and what came before it, where the option is not 0. */
+static void use_styles(void) {
+    /* set_text_style 2; print "hi"; set_text_style 0; print "hi"; erase_window -1; sound_effect 2; set_text_style 4;
+     * print_unicode 'ä'; sound_effect 1; erase_window 0; read_char 1 -> global 16; storeb 0 17 2 (a fixed pitch);
+     * print "hi"; quit */
+    const uint8_t code[] = {0xf1, 0x7f, 0x02, 0xb2, 0xb5, 0xc5, 0xf1, 0x7f, 0x00, 0xb2, 0xb5, 0xc5, 0xed, 0x3f, 0xff,
+                            0xff, 0xf5, 0x7f, 0x02, 0xf1, 0x7f, 0x04, 0xbe, 0x0b, 0x7f, 0xe4, 0xf5, 0x7f, 0x01, 0xed,
+                            0x7f, 0x00, 0xf6, 0x7f, 0x01, 0x10, 0xe2, 0x57, 0x00, 0x11, 0x02, 0xb2, 0xb5, 0xc5, 0xba};
+    zkit_options options = defaults();
+    zkit_run small = {.size = offsetof(zkit_run, before), .length = 9};
+    puts("styles, erasures and bleeps");
+    options.styles = 1;
+    zkit *game = opened_code(code, sizeof code, &options);
+    while (show_run(game, 16) > 0)
+        ;
+    say("turn", zkit_turn(game));
+    zkit_next_run(game, &small);
+    say("a size that is too small", small.length);
+    show_run(game, 1);
+    while (show_run(game, 16) > 0)
+        ;
+    say("character", zkit_character(game, 'x'));
+    say("turn", zkit_turn(game));
+    while (show_run(game, 16) > 0)
+        ;
+    zkit_close(game);
+    puts("the same without the option");
+    options.size = offsetof(zkit_options, styles);
+    game = opened_code(code, sizeof code, &options);
+    say("turn", zkit_turn(game));
+    while (show_run(game, 16) > 0)
+        ;
+    zkit_close(game);
+}
+
 /* Each option does what it says. */
 static void use_options(void) {
     use_seeds();
@@ -433,6 +480,7 @@ static void use_options(void) {
     for (uint32_t undo = 0; undo <= 4; undo++)
         use_states(undo);
     use_upper();
+    use_styles();
 }
 
 /* A story that runs 12,001,201 instructions, and then ends. */
@@ -678,8 +726,8 @@ static void undo_from_snapshots(void) {
     undo_from("a snapshot with a state", game, story, SIZE_MAX);
     undo_from("a snapshot without room for it", game, story, 19);
     undo_from_plain(game, story);
-    /* 82,007 and dynamic memory, 10 for each frame, 2 for each word */
-    say("the longest", zkit_longest_snapshot(game, 0) - 82007 - 0x800);
+    /* 82,008 and dynamic memory, 10 for each frame, 2 for each word */
+    say("the longest", zkit_longest_snapshot(game, 0) - 82008 - 0x800);
     say("the same of the limits", 10 * ZKIT_FRAMES + 2 * ZKIT_WORDS);
     say("with 19 bytes of states", zkit_longest_snapshot(game, 19) - zkit_longest_snapshot(game, 0));
     say("with all that there may be", zkit_longest_snapshot(game, SIZE_MAX) == SIZE_MAX);

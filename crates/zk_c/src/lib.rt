@@ -16,6 +16,7 @@ ghost use Rattle.zk_host.specs.Calls.{longest_snapshot, restore_refused, save_re
 ghost use Rattle.zk_host.specs.Drawing.{longest_line, row_bytes, row_number, window_of};
 ghost use Rattle.zk_host.specs.Files.{IsStoryPut};
 ghost use Rattle.zk_host.specs.Listings.{listing_numbered};
+ghost use Rattle.zk_host.specs.Marks.{run_of, run_told, taken_from, with_styles};
 ghost use Rattle.zk_host.specs.Numbers.{address_number, reason_number, status_number};
 ghost use Rattle.zk_host.specs.Exports.{IsAnswered, IsImaged, IsListed, IsOpened, IsOpenedAgain, IsSnapshotPut, IsTurn};
 ghost use Rattle.zk_host.specs.Exports.{IsUndo, OnPlay, facts_of, limits_said, view_if};
@@ -26,6 +27,7 @@ use zk_host::facts::{Facts, facts_of};
 use zk_host::files::{put_story, words_on_file};
 use zk_host::handle::Zkit;
 use zk_host::listing::listing_of;
+use zk_host::marks::Run;
 use zk_host::numbers::{
     address_number, answer_number, reason_number, refused_number, snapshot_number, status_number,
     turn_number,
@@ -123,10 +125,30 @@ pub extern "C" fn zk_character(alloc: Global, game: &mut Zkit, character: u32) -
 pub extern "C" fn zk_text(alloc: Global, game: &mut Zkit, buffer: &mut [u8]) -> usize
     ensures { OnPlay game.old.play game.new.play
         (λ old new. IsTaken old.text.screen new.text.screen buffer.old buffer.new result
-        × (new ≡ record old { text = record old.text { screen = new.text.screen } }))
+        × (new ≡ record old { text = taken_from old.text new.text.screen result }))
         ((result ≡ 0) × (buffer.new ≡ buffer.old)) }
 {
     on_play!(alloc, game, 0, play => play.take_text(buffer))
+}
+
+/// Keeps the style of each character of the screen's text from now on, where no text waits.
+#[unsafe(no_mangle)]
+pub extern "C" fn zk_keep_styles(alloc: Global, game: &mut Zkit)
+    ensures { OnPlay game.old.play game.new.play
+        (λ old new. new ≡ record old { text = with_styles old.text }) (Unit {0}) }
+{
+    on_play!(alloc, game, (), play => play.keep_styles())
+}
+
+/// Tells how the first bytes of the screen's text are shown, and what came before them, which is told once: an erasure
+/// of the lower window (16), a high bleep (32) and a low one (64).
+#[unsafe(no_mangle)]
+pub extern "C" fn zk_next_run(alloc: Global, game: &mut Zkit, run: &mut Run)
+    ensures { OnPlay game.old.play game.new.play
+        (λ old new. (new ≡ record old { text = run_told old.text }) × (run.new ≡ run_of old.text))
+        (run.new ≡ run.old) }
+{
+    *run = on_play!(alloc, game, (), play => play.next_run());
 }
 
 /// Takes text of the transcript, UTF-8, from the front into a buffer. Answers how many bytes: 0 where none are left.

@@ -9,7 +9,7 @@ use Rattle.std.proofs.KnownBytes.{Appends-nil}
 use Rattle.std.specs.Io.KnownBytes.{Appends}
 use Rattle.zk_term.specs.Devices.{Sender, Sends, TookPart}
 use Rattle.zk_host.specs.declared.collected.Collected.{Collected}
-use Rattle.zk_host.specs.Collecting.{Collects, is_lost, most_past_room, waiting_of}
+use Rattle.zk_host.specs.Collecting.{CollectsTexts, is_lost, most_past_room, waiting_of}
 
 -- ---- one device
 
@@ -76,7 +76,7 @@ part_is_short c part rest e =
 -- nothing is collected once text is lost
 pub collects_none : (a b : Collected) (s t : List ℕ) → is_lost b ≡ true → b.screen.bytes ≡ a.screen.bytes
     → b.script.bytes ≡ a.script.bytes → b.room ≡ a.room
-    → (b.too_much ≡ true → (a.too_much ≡ true) ⊎ (a.room + most_past_room ≤ waiting_of b)) → Collects a b s t
+    → (b.too_much ≡ true → (a.too_much ≡ true) ⊎ (a.room + most_past_room ≤ waiting_of b)) → CollectsTexts a b s t
 collects_none a b s t lost screen script room why =
     let same : waiting_of b ≡ waiting_of a = rw (screen, script) refl in
     record {
@@ -94,7 +94,7 @@ collects_none a b s t lost screen script room why =
 -- a character for the screen
 pub collects_screen : (a b : Collected) (c : ℕ) → is_lost a ≡ false → b.room ≡ a.room
     → b.script.bytes ≡ a.script.bytes → b.too_much ≡ a.too_much → waiting_of a < a.room + most_past_room
-    → b.screen.bytes ≡ a.screen.bytes ++ encode_utf8 c → Collects a b (c ∷ []) []
+    → b.screen.bytes ≡ a.screen.bytes ++ encode_utf8 c → CollectsTexts a b (c ∷ []) []
 collects_screen a b c works room script much few took =
     let more : length b.screen.bytes ≡ length a.screen.bytes + length (encode_utf8 c) = ap length took
     ∙ length-append a.screen.bytes (encode_utf8 c) in
@@ -115,7 +115,7 @@ collects_screen a b c works room script much few took =
 -- a first part of it, since there is no memory for more
 pub collects_screen_part : (a b : Collected) (c : ℕ) → is_lost a ≡ false → is_lost b ≡ true → b.room ≡ a.room
     → b.script.bytes ≡ a.script.bytes → b.too_much ≡ a.too_much → waiting_of a < a.room + most_past_room
-    → TookPart (Some a.screen.bytes) (Some b.screen.bytes) (encode_utf8 c) → Collects a b (c ∷ []) []
+    → TookPart (Some a.screen.bytes) (Some b.screen.bytes) (encode_utf8 c) → CollectsTexts a b (c ∷ []) []
 collects_screen_part a b c works lost room script much few took =
     let more : length b.screen.bytes ≡ length a.screen.bytes + length took.part = ap length took.takes
     ∙ length-append a.screen.bytes took.part in
@@ -136,7 +136,7 @@ collects_screen_part a b c works lost room script much few took =
 -- a character for the transcript
 pub collects_script : (a b : Collected) (c : ℕ) → is_lost a ≡ false → b.room ≡ a.room
     → b.screen.bytes ≡ a.screen.bytes → b.too_much ≡ a.too_much → waiting_of a < a.room + most_past_room
-    → b.script.bytes ≡ a.script.bytes ++ encode_utf8 c → Collects a b [] (c ∷ [])
+    → b.script.bytes ≡ a.script.bytes ++ encode_utf8 c → CollectsTexts a b [] (c ∷ [])
 collects_script a b c works room screen much few took =
     let more : length b.script.bytes ≡ length a.script.bytes + length (encode_utf8 c) = ap length took
     ∙ length-append a.script.bytes (encode_utf8 c) in
@@ -156,7 +156,7 @@ collects_script a b c works room screen much few took =
 
 pub collects_script_part : (a b : Collected) (c : ℕ) → is_lost a ≡ false → is_lost b ≡ true → b.room ≡ a.room
     → b.screen.bytes ≡ a.screen.bytes → b.too_much ≡ a.too_much → waiting_of a < a.room + most_past_room
-    → TookPart (Some a.script.bytes) (Some b.script.bytes) (encode_utf8 c) → Collects a b [] (c ∷ [])
+    → TookPart (Some a.script.bytes) (Some b.script.bytes) (encode_utf8 c) → CollectsTexts a b [] (c ∷ [])
 collects_script_part a b c works lost room screen much few took =
     let more : length b.script.bytes ≡ length a.script.bytes + length took.part = ap length took.takes
     ∙ length-append a.script.bytes took.part in
@@ -180,10 +180,17 @@ pub lost_screen : (x y z : Bool) → y ≡ true → (x || (y || z)) ≡ true
 lost_screen true y z e = refl
 lost_screen false y z e = rw e refl
 
-pub lost_script : (x y z : Bool) → z ≡ true → (x || (y || z)) ≡ true
-lost_script true y z e = refl
-lost_script false true z e = refl
-lost_script false false z e = e
+pub lost_script : (x y z w : Bool) → z ≡ true → (x || (y || (z || w))) ≡ true
+lost_script true y z w e = refl
+lost_script false true z w e = refl
+lost_script false false z w e = rw e refl
+
+-- marks were not lost where no text was
+pub marks_kept : (x y z w : Bool) → (x || (y || (z || w))) ≡ false → w ≡ false
+marks_kept true y z w e = absurd cc
+marks_kept false true z w e = absurd cc
+marks_kept false false true w e = absurd cc
+marks_kept false false false w e = e
 
 -- ---- how many wait
 

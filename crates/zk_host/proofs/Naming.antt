@@ -8,7 +8,7 @@ use Rattle.zk_text.specs.Extra.{own_characters}
 use Rattle.zk_text.specs.Shown.{shown_all}
 use Rattle.zk_text.specs.Walked.{words_walked}
 use Rattle.zk_host.specs.declared.collected.Collected.{Collected}
-use Rattle.zk_host.specs.Collecting.{Collects, collects_nothing, nothing_collected}
+use Rattle.zk_host.specs.Collecting.{CollectsTexts, texts_nothing, nothing_collected}
 use Rattle.zk_host.specs.Names.{IsNameOf, first_units}
 
 -- those of a text of few words, and of one of many
@@ -29,9 +29,9 @@ of_many m a w us is many = go (nat_lt 65536 (words_walked m a)) refl
     go false e =
         let fewer : words_walked m a ≤ 65536 = grind (arith, nat_tests) in absurd (omega (arith, is, many, fewer))
 
-pub nothing_named : (m : MemoryMap) (c : Collected) → Collects c c (shown_all (own_characters m) []) []
+pub nothing_named : (m : MemoryMap) (c : Collected) → CollectsTexts c c (shown_all (own_characters m) []) []
 unfolding shown_all
-nothing_named m c = collects_nothing c
+nothing_named m c = texts_nothing c
 
 -- an object without a short name
 pub no_name : (m : MemoryMap) → IsNameOf m None nothing_collected

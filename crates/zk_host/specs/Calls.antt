@@ -10,7 +10,7 @@ use Rattle.zk_step.specs.declared.state.ending.Event.TheVariants.{Line, Char, Sa
 use Rattle.zk_vm.specs.declared.stop.Stop.{Stop}
 use Rattle.zk_vm.specs.Answers.{Answer, undone}
 use Rattle.zk_vm.specs.Halts.{IsLeftAs, IsUndone, event_waited}
-use Rattle.zk_vm.specs.Log.{Entry, scripted, shown}
+use Rattle.zk_vm.specs.Log.{Entry, signals}
 use Rattle.zk_vm.specs.Logged.{Ran, RunsOn}
 use Rattle.zk_vm.specs.Pausing.{StandsShort}
 use Rattle.zk_vm.specs.Sessions.{Session, begun, given}
@@ -60,7 +60,7 @@ stop_of (Err stop) = Some stop
 
 -- what the screen and the transcript get of a log is collected; where text is lost, perhaps a first part of it alone
 abbrev pub Shown : Collected → Collected → List Entry → Type 0
-Shown old new l = Collects old new (shown l) (scripted l)
+Shown old new l = Collects old new (signals l)
 
 -- of the instructions nothing is noted
 abbrev pub Unnoted : List ℕ → Type 0

@@ -1,5 +1,6 @@
 pub mod Owning
 pub mod Texts
+pub mod Marks
 pub mod Collecting
 pub mod Drawing
 pub mod Listings

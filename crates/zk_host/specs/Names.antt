@@ -8,7 +8,7 @@ use Rattle.zk_text.specs.Walked.{words_walked}
 use Rattle.zk_step.specs.declared.output.status.StatusLine.{StatusLine}
 use Rattle.zk_step.specs.Status.{named}
 use Rattle.zk_host.specs.declared.collected.Collected.{Collected}
-use Rattle.zk_host.specs.Collecting.{Collects, nothing_collected}
+use Rattle.zk_host.specs.Collecting.{CollectsTexts, nothing_collected}
 
 -- the first 1,000 units of the text at an address, or none where it has more than 65,536 words, with those of the
 -- abbreviations that it uses
@@ -23,7 +23,7 @@ first_named m (Some a) units = first_units m a units
 -- the first units of an object's short name were collected
 abbrev pub IsNameOf : MemoryMap → Option ℕ → Collected → Type 0
 IsNameOf m name c = (units : List TextUnit) → named m name ≡ Ok units
-    → Collects nothing_collected c (shown_all (own_characters m) (first_named m name units)) []
+    → CollectsTexts nothing_collected c (shown_all (own_characters m) (first_named m name units)) []
 
 -- the name in a status line can be read
 abbrev pub IsNamed : MemoryMap → Option StatusLine → Type 0

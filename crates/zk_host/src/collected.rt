@@ -1,13 +1,17 @@
 // Text that a play has shown and nobody has taken yet.
 
-ghost use Rattle.std.specs.Prelude.{◌≡◌, ◌+◌, false, if◌then◌else◌, nat_le, true};
+ghost use Rattle.std.specs.Prelude.{◌≡◌, ◌+◌, [], ◌∷◌, bit_or, false, if◌then◌else◌, nat_le, true, Some, slice_get};
+ghost use Rattle.zk_host.specs.Marks.{marked_if, marks_in, run_by, run_of, run_told, taken_from, with_styles};
+ghost use Rattle.zk_term.specs.Signals.Signal as signal;
 ghost use Rattle.zk_host.specs.Collecting.{has_no_room, is_lost, most_past_room, nothing_collected, waiting_of};
 ghost use Rattle.zk_host.specs.Collecting.{wants_pause};
 
+use crate::marks::{ERASED, Run, bleep_mark, style_mark};
 use crate::text::Text;
 use std::alloc::Global;
 use zk_term::screen::Screen;
-use zk_term::target::{Failed, write_char};
+use zk_term::style::{Bleep, Style};
+use zk_term::target::{Failed, write_all, write_char};
 
 /// One instruction shows at most so many bytes past the room.
 const MOST_PAST_ROOM: u64 = 1_048_576;
@@ -20,6 +24,14 @@ pub struct Collected {
     pub screen: Text,
     pub script: Text,
     pub room: u32,
+    /// The mark of each byte of the screen's text, where they are kept.
+    pub marks: Text,
+    /// The marks of what came after the last byte.
+    pub before: u8,
+    /// Marks are kept.
+    pub styled: bool,
+    /// What came before the first byte was told.
+    pub told: bool,
     /// An instruction has shown too much past the room.
     pub too_much: bool,
     /// There is no memory for what may be shown at once.
@@ -34,6 +46,10 @@ impl Collected {
         Collected {
             screen: Text::new(alloc),
             script: Text::new(alloc),
+            marks: Text::new(alloc),
+            before: 0,
+            styled: false,
+            told: false,
             room: 0,
             too_much: false,
             short: false,
@@ -51,7 +67,8 @@ impl Collected {
     pub fn is_lost(&self) -> bool
         ensures { result ≡ is_lost self.now }
     {
-        self.too_much || (self.screen.has_failed() || self.script.has_failed())
+        self.too_much
+            || (self.screen.has_failed() || (self.script.has_failed() || self.marks.has_failed()))
     }
 
     /// Whether as much waits as there is room for, or more.
@@ -66,8 +83,108 @@ impl Collected {
         ensures value { self.new ≡ record self.old { short = self.new.short } }
         ensures told { result ≡ (if self.new.short then false else true) }
     {
-        self.short = !(self.screen.make_room() && self.script.make_room());
+        self.short = !(self.screen.make_room()
+            && self.script.make_room()
+            && self.make_marks_room());
         !self.short
+    }
+
+    /// Keeps marks from now on, where no text waits.
+    pub fn keep_styles(&mut self)
+        ensures { self.new ≡ with_styles self.old }
+    {
+        if self.screen.len() == 0 && self.marks.len() == 0 {
+            self.styled = true;
+        }
+    }
+
+    /// Tells how the first bytes of the screen's text are shown, and what came before them, which is told once.
+    pub fn next_run(&mut self) -> Run
+        ensures value { result ≡ run_of self.old }
+        ensures told { self.new ≡ run_told self.old }
+    {
+        if !self.styled {
+            return Run {
+                length: self.screen.len(),
+                style: 0,
+                before: 0,
+            };
+        }
+        match self.marks.first() {
+            Some(mark) => self.run_from(mark),
+            None => {
+                let before = self.before as u32;
+                self.before = 0;
+                Run {
+                    length: 0,
+                    style: 0,
+                    before,
+                }
+            }
+        }
+    }
+
+    /// The run that begins with a mark.
+    fn run_from(&mut self, mark: u8) -> Run
+        requires { slice_get self.old.marks.bytes 0 ≡ Some mark }
+        ensures value { result ≡ run_by self.old.marks.bytes self.old.before self.old.told }
+        ensures told { self.new ≡ record self.old { told = true } }
+    {
+        let style = mark % 16;
+        let before = if self.told { 0 } else { mark / 16 * 16 };
+        self.told = true;
+        Run {
+            length: self.marks.same_from(1, style) + 1,
+            style: style as u32,
+            before: before as u32,
+        }
+    }
+
+    /// Passes over the marks of bytes that were taken.
+    pub fn pass_marks(&mut self, count: usize)
+        ensures { self.new ≡ taken_from self.old self.old.screen count }
+    {
+        if count > 0 {
+            self.marks.pass(count);
+            self.told = false;
+        }
+    }
+
+    /// Makes room for the marks of what may be shown at once, where they are kept. Says whether there is memory for it.
+    fn make_marks_room(&mut self) -> bool
+        ensures { self.new ≡ self.old }
+    {
+        if self.styled {
+            return self.marks.make_room();
+        }
+        true
+    }
+
+    /// Marks the bytes of a character, where marks are kept.
+    fn mark(&mut self, c: char, style: Style)
+        ensures same { self.new ≡ record self.old { marks = self.new.marks; before = self.new.before } }
+        ensures marked { self.new.marks.failed ≡ false
+            → marks_in self.new ≡ marked_if self.old.styled (signal.Text c style ∷ []) (marks_in self.old) }
+    {
+        if !self.styled {
+            return;
+        }
+        let mark = style_mark(style);
+        let marks = [mark | self.before, mark, mark, mark];
+        match write_all(&mut self.marks, &marks[..c.len_utf8()]) {
+            Ok(()) => self.before = 0,
+            Err(Failed) => {}
+        }
+    }
+
+    /// Marks what comes next, where marks are kept.
+    fn mark_next(&mut self, mark: u8)
+        ensures { self.new ≡ (if self.old.styled then record self.old { before = bit_or self.old.before mark }
+            else self.old) }
+    {
+        if self.styled {
+            self.before |= mark;
+        }
     }
 
     /// Makes room again behind a character for the screen.
@@ -75,7 +192,7 @@ impl Collected {
         ensures { self.new ≡ record self.old { short = self.new.short } }
     {
         if !self.short {
-            self.short = !self.screen.make_room();
+            self.short = !(self.screen.make_room() && self.make_marks_room());
         }
     }
 
@@ -112,7 +229,7 @@ impl Screen for Collected {
 
     ghost full = { wants_pause };
 
-    fn text(&mut self, c: char) {
+    fn text(&mut self, c: char, style: Style) {
         if self.is_lost() {
             return;
         }
@@ -121,7 +238,10 @@ impl Screen for Collected {
             return;
         }
         match write_char(&mut self.screen, c) {
-            Ok(()) => self.keep_screen_room(),
+            Ok(()) => {
+                self.mark(c, style);
+                self.keep_screen_room();
+            }
             Err(Failed) => {}
         }
     }
@@ -138,6 +258,14 @@ impl Screen for Collected {
             Ok(()) => self.keep_script_room(),
             Err(Failed) => {}
         }
+    }
+
+    fn erase(&mut self) {
+        self.mark_next(ERASED);
+    }
+
+    fn beep(&mut self, bleep: Bleep) {
+        self.mark_next(bleep_mark(bleep));
     }
 
     fn has_failed(&self) -> bool {

@@ -9,6 +9,7 @@ pub mod files;
 pub mod handle;
 pub mod listing;
 mod loose;
+pub mod marks;
 mod name;
 pub mod numbers;
 pub mod options;

@@ -6,7 +6,7 @@ ghost use Rattle.zk_text.specs.Extra.{own_characters};
 ghost use Rattle.zk_text.specs.Meaning.{text_units};
 ghost use Rattle.zk_text.specs.Shown.{shown, shown_all};
 ghost use Rattle.zk_step.specs.Status.{named};
-ghost use Rattle.zk_host.specs.Collecting.{Collects, nothing_collected};
+ghost use Rattle.zk_host.specs.Collecting.{CollectsTexts, nothing_collected};
 ghost use Rattle.zk_host.specs.Names.{HasName, IsNamed, IsNameOf, first_units};
 
 use crate::collected::Collected;
@@ -14,6 +14,7 @@ use std::alloc::Global;
 use zk_mem::memory::Memory;
 use zk_step::output::status::StatusLine;
 use zk_term::screen::Screen;
+use zk_term::style::Style;
 use zk_text::extra::Extra;
 use zk_text::shown::Shown;
 use zk_text::sink::{Sink, SinkFault};
@@ -27,7 +28,7 @@ const MOST_UNITS: usize = 1_000;
 /// None are collected of a name of more words, with those of the abbreviations that it uses.
 const MOST_WORDS: u32 = 65_536;
 
-/// Collects the first units of a text, as many as are left.
+/// CollectsTexts the first units of a text, as many as are left.
 #[derive(Drop)]
 pub struct NameSink<'a> {
     pub name: &'a mut Collected,
@@ -36,19 +37,19 @@ pub struct NameSink<'a> {
 }
 
 impl<'a> NameSink<'a> {
-    /// Collects a unit.
+    /// CollectsTexts a unit.
     fn collect(&mut self, unit: Unit)
         ensures kept { (self.new.name.ghost_name ≡ self.old.name.ghost_name)
             × (self.new.extra.now ≡ self.old.extra.now) × (self.new.left ≡ self.old.left) }
-        ensures collected { Collects self.old.name.now self.new.name.now
+        ensures collected { CollectsTexts self.old.name.now self.new.name.now
             (shown self.old.extra.now unit) [] }
     {
         match Shown::of(self.extra, unit) {
             Shown::Nothing => {}
-            Shown::One(c) => self.name.text(c),
+            Shown::One(c) => self.name.text(c, Style::roman()),
             Shown::TwoSpaces => {
-                self.name.text(' ');
-                self.name.text(' ');
+                self.name.text(' ', Style::roman());
+                self.name.text(' ', Style::roman());
             }
         }
     }
@@ -58,15 +59,15 @@ impl<'a> Sink for NameSink<'a> {
     ghost use Rattle.std.specs.Prelude.{◌≡◌, ◌+◌, List, [], refl, length, take};
     ghost use Rattle.std.proofs.Common.{◌∙◌};
     ghost use Rattle.zk_text.specs.Shown.{shown, shown_all};
-    ghost use Rattle.zk_host.specs.Collecting.{Collects};
+    ghost use Rattle.zk_host.specs.Collecting.{CollectsTexts};
     ghost use Rattle.zk_host.specs.NameSinks.{left_nothing, left_twice, name_nothing, name_twice, name_late};
 
     ghost gave = { λ a b us. (b.name.ghost_name ≡ a.name.ghost_name) × (b.extra.now ≡ a.extra.now)
         × (a.left ≡ length us + b.left)
-        × Collects a.name.now b.name.now (shown_all a.extra.now us) [] };
+        × CollectsTexts a.name.now b.name.now (shown_all a.extra.now us) [] };
 
     ghost refused = { λ a b us. (b.name.ghost_name ≡ a.name.ghost_name) × (b.extra.now ≡ a.extra.now)
-        × Collects a.name.now b.name.now (shown_all a.extra.now (take a.left us)) [] };
+        × CollectsTexts a.name.now b.name.now (shown_all a.extra.now (take a.left us)) [] };
 
     fn put(&mut self, unit: Unit) -> Result<(), SinkFault> {
         if self.left == 0 {
@@ -99,11 +100,11 @@ impl<'a> Sink for NameSink<'a> {
     ) };
 }
 
-/// Collects the first units of the text at a byte address.
+/// CollectsTexts the first units of the text at a byte address.
 fn collect_first(memory: &Memory, address: u32, name: &mut Collected)
     requires { IsOk (text_units memory.now address) }
     ensures { (units : List Unit) → text_units memory.now address ≡ Ok units →
-        Collects name.old name.new (shown_all (own_characters memory.now) (take 1000 units)) [] }
+        CollectsTexts name.old name.new (shown_all (own_characters memory.now) (take 1000 units)) [] }
 {
     let extra = Extra::of(memory);
     let mut sink = NameSink {
@@ -118,11 +119,11 @@ fn collect_first(memory: &Memory, address: u32, name: &mut Collected)
     }
 }
 
-/// Collects the first units of the text at a byte address, unless it has too many words.
+/// CollectsTexts the first units of the text at a byte address, unless it has too many words.
 fn collect(memory: &Memory, address: u32, name: &mut Collected)
     requires { IsOk (text_units memory.now address) }
     ensures { (units : List Unit) → text_units memory.now address ≡ Ok units →
-        Collects name.old name.new (shown_all (own_characters memory.now)
+        CollectsTexts name.old name.new (shown_all (own_characters memory.now)
         (first_units memory.now address units)) [] }
 {
     if words_walked(memory, address, MOST_WORDS + 1) <= MOST_WORDS {

@@ -11,6 +11,7 @@ ghost use Rattle.zk_term.specs.Windows.{row_text, tallest_row_text};
 ghost use Rattle.zk_vm.specs.Sessions.{with_grid_forgotten};
 ghost use Rattle.zk_host.specs.Drawing.{longest_line, row_bytes, row_number, window_of};
 ghost use Rattle.zk_host.specs.Listings.{IsListing, IsUnlisted};
+ghost use Rattle.zk_host.specs.Marks.{run_of, run_told, taken_from, with_styles};
 ghost use Rattle.zk_snapshot.specs.Opening.{IsRefused};
 ghost use Rattle.zk_host.specs.Texts.{IsTaken};
 
@@ -19,6 +20,7 @@ use crate::drawing::{
     StatusFigures, WindowFigures, figures, line_room, row_of, status_of, utf8_of, window_of,
 };
 use crate::listing::{Listing, list};
+use crate::marks::Run;
 use crate::name::name_of;
 use crate::options::are_within;
 use crate::text::Text;
@@ -286,13 +288,30 @@ impl Play {
         }
     }
 
-    /// Takes text of the screen from the front into a buffer, and says how many bytes.
+    /// Keeps the style of each character of the screen from now on, where no text waits.
+    pub fn keep_styles(&mut self)
+        ensures { self.new ≡ record self.old { text = with_styles self.old.text } }
+    {
+        self.text.keep_styles();
+    }
+
+    /// Tells how the first bytes of the screen's text are shown, and what came before them, which is told once.
+    pub fn next_run(&mut self) -> Run
+        ensures value { result ≡ run_of self.old.text }
+        ensures told { self.new ≡ record self.old { text = run_told self.old.text } }
+    {
+        self.text.next_run()
+    }
+
+    /// Takes text of the screen from the front into a buffer, with its marks, and says how many bytes.
     pub fn take_text(&mut self, buffer: &mut [u8]) -> usize
         ensures text { IsTaken self.old.text.screen self.new.text.screen buffer.old buffer.new result }
-        ensures beside { self.new
-            ≡ record self.old { text = record self.old.text { screen = self.new.text.screen } } }
+        ensures beside { self.new ≡ record self.old
+            { text = taken_from self.old.text self.new.text.screen result } }
     {
-        self.text.screen.take(buffer)
+        let count = self.text.screen.take(buffer);
+        self.text.pass_marks(count);
+        count
     }
 
     /// Takes text of the transcript from the front into a buffer, and says how many bytes.

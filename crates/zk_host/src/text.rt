@@ -1,6 +1,7 @@
 // Text that waits to be taken.
 
-ghost use Rattle.std.specs.Prelude.{◌≡◌, ◌++◌, [], drop, false, length, min, take};
+ghost use Rattle.std.specs.Prelude.{◌≡◌, ◌≤◌, ◌++◌, [], drop, false, length, min, slice_get, take};
+ghost use Rattle.zk_host.specs.Marks.{so_marked};
 ghost use Rattle.zk_host.specs.Collecting.{no_text};
 ghost use Rattle.zk_host.specs.Exports.{IsPut};
 ghost use Rattle.zk_host.specs.Texts.{IsPutInFront, IsTaken};
@@ -88,6 +89,37 @@ impl Text {
             return true;
         }
         self.bytes.reserve(waiting.max(PART) + PART).is_ok()
+    }
+
+    /// The first byte that waits.
+    pub fn first(&self) -> Option<u8>
+        ensures { result ≡ slice_get self.now.bytes 0 }
+    {
+        self.bytes.get(0).copied()
+    }
+
+    /// How many bytes from an index on are the same as one, up to the first that is another.
+    pub fn same_from(&self, from: usize, byte: u8) -> usize
+        requires { from ≤ length self.now.bytes }
+        ensures { result ≡ so_marked byte (drop from self.now.bytes) }
+    {
+        let mut count = 0;
+        while from + count < self.bytes.len() {
+            match self.bytes.get(from + count) {
+                Some(x) if *x == byte => count += 1,
+                _ => return count,
+            }
+        }
+        count
+    }
+
+    /// Passes over bytes at the front.
+    pub fn pass(&mut self, count: usize)
+        ensures { self.new ≡ record self.old { bytes = drop count self.old.bytes } }
+    {
+        for _i in 0..count {
+            let _ = self.bytes.pop_front();
+        }
     }
 
     /// Takes bytes from the front into a buffer, at most as many as it has room for, and says how many: none where none

@@ -27,6 +27,7 @@ use zk_term::lines::{Input, Lines};
 use zk_term::nothing::Nothing;
 use zk_term::screen::Screen;
 use zk_term::source::Source;
+use zk_term::style::Style;
 use zk_term::target::{Failed, Target};
 use zk_term::windows::Windows;
 use zk_vm::machine::{Machine, is_read};
@@ -84,12 +85,12 @@ fn row_within(windows: &Windows, row: u8, width: Option<u8>) -> &[char]
 
 /// Shows a row on a line, after a bar and a space.
 fn show_row<S: Screen>(screen: &mut S, characters: &[char]) {
-    screen.text('|');
-    screen.text(' ');
+    screen.text('|', Style::roman());
+    screen.text(' ', Style::roman());
     for c in characters {
-        screen.text(*c);
+        screen.text(*c, Style::roman());
     }
-    screen.text('\n');
+    screen.text('\n', Style::roman());
 }
 
 /// How many rows are shown: those of the window, and those that were taken away since the last read, unless that read a

@@ -101,7 +101,7 @@ frames_most : (s : FrameList) → IsBounded s → length (frames_bytes (frames_o
 frames_most s is = omega (arith, frames_size (frames_of s), is.frames, is.words)
 
 game_long : (g : GameState) → IsBounded g.frames → length g.streams.tables ≤ 16
-    → length (game_bytes g) ≤ 81947 + g.memory.static_base + 10 * g.frames.most_frames + 2 * g.frames.most_words
+    → length (game_bytes g) ≤ 81948 + g.memory.static_base + 10 * g.frames.most_frames + 2 * g.frames.most_words
 unfolding game_bytes
 game_long g is few =
     simp length-append (omega (
@@ -192,7 +192,7 @@ fits_newest file ws most = (fit_front file most ws, fit_sum file most ws)
 
 body_long : (states : List WholeState) (s : Session) → IsBounded s.state.game.frames
     → length s.state.game.streams.tables ≤ 16
-    → length (body_bytes states s) ≤ 82003 + s.state.game.memory.static_base + 10
+    → length (body_bytes states s) ≤ 82004 + s.state.game.memory.static_base + 10
     * s.state.game.frames.most_frames + 2 * s.state.game.frames.most_words + length
     (flat_map (kept_bytes s.state.game.memory.file) states)
 unfolding body_bytes

@@ -115,8 +115,8 @@ unfoldable pub rows_bytes : ℕ → Windows → List ℕ
 rows_bytes zero w = []
 rows_bytes (suc n) w = rows_bytes n w ++ row_bytes (row_text w (suc n))
 
--- the windows: the upper one's height, the cursor's row and column, the window that is selected, the text style, and all
--- 255 rows
+-- the windows: the upper one's height, the cursor's row and column, the window that is selected, the text style, and
+-- all 255 rows
 unfoldable pub windows_bytes : Windows → List ℕ
 windows_bytes w = w.height ∷ [] ++ bytes_2 w.row ++ w.column ∷ [] ++ window_byte w.selected ∷ []
     ++ style_byte w.style ∷ [] ++ rows_bytes 255 w
