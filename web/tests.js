@@ -13,7 +13,7 @@ import fs from "fs";
 import path from "path";
 import { fileURLToPath } from "url";
 import { sumOf } from "./page/sums.js";
-import { telling, tellingStatus } from "./page_tests/stories.mjs";
+import { styled, telling, tellingStatus } from "./page_tests/stories.mjs";
 import { linesOf, play } from "./player.js";
 import { LISTINGS, Module, Refused } from "./zkit.js";
 
@@ -758,6 +758,26 @@ function generated(module) {
 }
 
 /** The page's worker: it goes on from its own snapshots, with the limits that the page gives. */
+/** The runs of a text with styles, erasures and bleeps. */
+function styles(module) {
+    const story = styled();
+    const run = (text, styles, before) => ({ text, styles, before });
+    const wanted = [run("hi", ["bold"], []), run("hi", [], []), run("ä", ["italic"], ["erased", "low bleep"]),
+        run("", [], ["erased", "high bleep"])];
+    const game = module.open(story, { styles: true });
+    want(game.turn() === "character", "styles: a character is read");
+    want(JSON.stringify(game.runs()) === JSON.stringify(wanted), "styles: the runs");
+    want(game.runs().length === 0, "styles: no run is told twice");
+    game.character(120);
+    game.turn();
+    want(JSON.stringify(game.runs()) === JSON.stringify([run("hi", ["italic", "fixed"], [])]), "styles: a fixed pitch");
+    game.close();
+    const plain = module.open(story);
+    plain.turn();
+    want(JSON.stringify(plain.runs()) === JSON.stringify([run("hihiä", [], [])]), "styles: one run without the option");
+    plain.close();
+}
+
 async function worker() {
     const waiting = new Map();
     let calls = 0;
@@ -788,7 +808,7 @@ async function worker() {
 async function main() {
     const tests = [
         rows, examples, windows, listings, refusals, wordsOfReasons, refusedFiles, limits, seeds, inputs, commands,
-        sums, figures, firstCharacters, lastLines, blorbs, snapshots, snapshotRefusals, thousand, large, full,
+        sums, figures, styles, firstCharacters, lastLines, blorbs, snapshots, snapshotRefusals, thousand, large, full,
         refusedRequests, refusedCalls, worker, generated,
     ];
     for (const test of NAMES.length === 0 ? tests : NAMES.map((name) => tests.find((it) => it.name === name))) {

@@ -38,9 +38,11 @@ struct line {
     size_t length;
 };
 
-/* The text, the last line that was edited at its end, and where each row of it begins. */
+/* The text, the last line that was edited at its end, and where each row of it begins; the style of each character, and
+ * of the next one; and where the text begins that the story has not erased. */
 static wchar_t text[MOST_TEXT + LONGEST_LINE + 1];
-static size_t text_length, seen;
+static uint8_t styles[MOST_TEXT], style;
+static size_t text_length, seen, erased;
 static size_t starts[MOST_TEXT + LONGEST_LINE + 2];
 static struct line history[MOST_LINES];
 static size_t history_length;
@@ -53,8 +55,11 @@ static void add_character(wchar_t character) {
     if (text_length == MOST_TEXT) {
         text_length /= 2;
         memmove(text, text + MOST_TEXT - text_length, text_length * sizeof *text);
+        memmove(styles, styles + MOST_TEXT - text_length, text_length);
         seen = seen > MOST_TEXT - text_length ? seen - (MOST_TEXT - text_length) : 0;
+        erased = erased > MOST_TEXT - text_length ? erased - (MOST_TEXT - text_length) : 0;
     }
+    styles[text_length] = style;
     text[text_length++] = character;
 }
 
@@ -207,11 +212,35 @@ static void draw_box(int top, const zkit_window *window) {
     attroff(A_REVERSE);
 }
 
+/* The style of a character; a line that is edited has none. */
+static uint8_t style_at(size_t i) {
+    return i < text_length ? styles[i] : 0;
+}
+
+/* How a terminal shows a style. Many have no italic letters, so these are underlined. */
+static attr_t look_of(uint8_t its) {
+    return (its & ZKIT_REVERSE ? A_REVERSE : 0) | (its & ZKIT_BOLD ? A_BOLD : 0) | (its & ZKIT_ITALIC ? A_UNDERLINE : 0);
+}
+
+/* Draws a row of the text, each part in its style. */
+static void draw_row(int row, size_t start, size_t end) {
+    move(row, 0);
+    for (size_t next = start; start < end; start = next) {
+        while (next < end && style_at(next) == style_at(start))
+            next++;
+        attrset(look_of(style_at(start)));
+        addnwstr(text + start, (int)(next - start));
+    }
+    attrset(A_NORMAL);
+}
+
 /* Draws the last rows of the text, up to an end, between two rows of the screen. The cursor comes to a place in it. */
 static void draw_text(int top, int bottom, size_t end, size_t cursor) {
     size_t room = (size_t)(bottom > top ? bottom - top : 1), count = lay_out(end);
     size_t first = count > room ? count - room : 0;
     int row = top, cursor_row = top, cursor_column = 0;
+    while (first + 1 < count && starts[first] < erased)
+        first++;
     for (size_t i = first; i < count; i++, row++) {
         size_t row_end = i + 1 < count ? starts[i + 1] : end, start = starts[i];
         if (start <= cursor) {
@@ -222,7 +251,7 @@ static void draw_text(int top, int bottom, size_t end, size_t cursor) {
         }
         while (row_end > start && (text[row_end - 1] == L'\n' || text[row_end - 1] == L' '))
             row_end--;
-        mvaddnwstr(row, 0, text + start, (int)(row_end - start));
+        draw_row(row, start, row_end);
     }
     move(cursor_row, cursor_column < COLS ? cursor_column : COLS - 1);
 }
@@ -276,6 +305,7 @@ static int next_key(wint_t *key, int *is_code) {
 
 /* Shows what is new a screen at a time, with a key before each next one, where it is more than a screen. */
 static int show_new(void) {
+    seen = seen < erased ? erased : seen;
     for (;;) {
         size_t count = lay_out(text_length), rows = rows_of_text() - 1, first = 0;
         wint_t key;
@@ -463,11 +493,31 @@ static int answer_restore(void) {
 
 /* ---- the play */
 
+/* Does what came before a run of text: what the story erased is no longer shown, and the terminal beeps. */
+static void do_before(uint32_t before) {
+    if (before & ZKIT_ERASED) {
+        if (text_length > 0 && text[text_length - 1] != L'\n')
+            add_character(L'\n');
+        erased = text_length;
+    }
+    if (before & (ZKIT_HIGH_BLEEP | ZKIT_LOW_BLEEP))
+        beep();
+}
+
 static void take_text(void) {
     uint8_t buffer[4096];
-    size_t count;
-    while ((count = zkit_text(game, buffer, sizeof buffer)) > 0)
-        add_bytes(buffer, count);
+    zkit_run run = {.size = sizeof run};
+    do {
+        zkit_next_run(game, &run);
+        do_before(run.before);
+        style = (uint8_t)run.style;
+        for (size_t left = run.length; left > 0;) {
+            size_t count = zkit_text(game, buffer, left < sizeof buffer ? left : sizeof buffer);
+            add_bytes(buffer, count);
+            left -= count;
+        }
+    } while (run.length > 0);
+    style = 0;
     while (zkit_transcript(game, buffer, sizeof buffer) > 0) {
     }
 }
@@ -554,6 +604,7 @@ static uint32_t open_story(const char *name, const char *seed) {
     uint32_t reason;
     zkit_defaults(&options);
     options.seed = seed ? strtoull(seed, NULL, 10) : (uint64_t)time(NULL);
+    options.styles = 1;
     game = zkit_open(story, read_file(name, story), &options, &reason);
     return reason;
 }

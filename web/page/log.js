@@ -5,7 +5,9 @@ import { at, made } from "./at.js";
 import { Width } from "./reflow.js";
 
 /** @typedef {"text" | "prompt" | "typed" | "note" | "box"} Kind */
-/** @typedef {{kind: Kind, text: string}} Piece */
+/** @typedef {import("./machine.js").Run} Run */
+/** @typedef {{from: number, to: number, styles: string[]}} Range a part of a text that is not in roman */
+/** @typedef {{kind: Kind, text: string, ranges?: Range[]}} Piece */
 /** @typedef {{blocks: number, held: string}} Mark */
 
 /** So many characters a block has at most, about. */
@@ -26,6 +28,27 @@ function endOfPart(text, most) {
     if (text.length <= most)
         return text.length;
     return text.lastIndexOf("\n", most - 1) + 1 || text.indexOf("\n") + 1 || text.length;
+}
+
+/**
+ * The parts of a line that stand in one style each. The line begins at an index of its text.
+ * @param {string} line
+ * @param {number} begin
+ * @param {Range[]} ranges
+ */
+function styled(line, begin, ranges) {
+    const parts = [];
+    let done = 0;
+    for (const { from, to, styles } of ranges) {
+        const start = Math.max(from - begin, done);
+        const end = Math.min(to - begin, line.length);
+        if (start >= end)
+            continue;
+        parts.push(line.slice(done, start), made("span", styles.join(" "), line.slice(start, end)));
+        done = end;
+    }
+    parts.push(line.slice(done));
+    return parts.filter((part) => part !== "");
 }
 
 const scroller = at("scroller");
@@ -60,16 +83,18 @@ export class Log {
     /**
      * @param {Kind} kind
      * @param {string} text
+     * @param {string[]} styles
      */
-    add(kind, text) {
+    add(kind, text, styles = []) {
         if (!text)
             return;
         const block = this.blocks[this.blocks.length - 1] || this.newBlock();
-        const last = block[block.length - 1];
-        if (last && last.kind === kind && kind === "text")
-            last.text += text;
-        else
-            block.push({ kind, text });
+        let piece = block[block.length - 1];
+        if (!piece || piece.kind !== kind || kind !== "text")
+            block.push(piece = { kind, text: "" });
+        piece.text += text;
+        if (styles.length > 0)
+            (piece.ranges ||= []).push({ from: piece.text.length - text.length, to: piece.text.length, styles });
         this.due();
     }
 
@@ -82,15 +107,37 @@ export class Log {
 
     /**
      * Adds what the story has written.
-     * @param {string} text
+     * @param {Run[]} runs
      */
-    text(text) {
+    runs(runs) {
+        this.width.see(runs.map((run) => run.text).join(""));
+        for (const { text, styles, before } of runs) {
+            if (before.includes("erased"))
+                this.erased();
+            if (text)
+                this.text(text, styles);
+        }
+    }
+
+    /** Begins a part that is read from its start: the story has erased what stood before. */
+    erased() {
         this.release();
-        this.width.see(text);
+        this.newBlock();
+        this.turn = this.blocks.length - 1;
+        this.due();
+    }
+
+    /**
+     * Adds a text in a style.
+     * @param {string} text
+     * @param {string[]} styles
+     */
+    text(text, styles) {
+        this.release();
         for (let rest = text; rest;) {
             const size = (this.blocks[this.blocks.length - 1] || []).reduce((sum, piece) => sum + piece.text.length, 0);
             const end = endOfPart(rest, Math.max(BLOCK - size, 1));
-            this.add("text", rest.slice(0, end));
+            this.add("text", rest.slice(0, end), styles);
             rest = rest.slice(end);
             if (rest)
                 this.newBlock();
@@ -272,26 +319,27 @@ export class Log {
      * @param {HTMLElement} element
      */
     drawBlock(i, element) {
-        const pieces = this.blocks[i].map(({ kind, text }) => this.drawPiece(kind, text));
+        const pieces = this.blocks[i].map((piece) => this.drawPiece(piece));
         element.replaceChildren(...pieces);
         return element;
     }
 
-    /**
-     * @param {Kind} kind
-     * @param {string} text
-     */
-    drawPiece(kind, text) {
+    /** @param {Piece} piece */
+    drawPiece({ kind, text, ranges = [] }) {
         const element = made("span", kind);
         if (kind !== "text") {
             element.textContent = text;
             return element;
         }
         const lines = text.split("\n");
+        let begin = 0;
         lines.forEach((line, i) => {
-            element.append(line);
+            element.append(...styled(line, begin, ranges));
+            begin += line.length + 1;
+            const isFixed = ranges.some(({ from, to, styles }) => from < begin && to > begin - 1 && styles.includes("fixed"));
+            const isSoft = !isFixed && i < lines.length - 1 && this.width.joins(line, lines[i + 1]);
             if (i < lines.length - 1)
-                element.append(this.width.joins(line, lines[i + 1]) ? made("span", "soft", "\n") : "\n");
+                element.append(isSoft ? made("span", "soft", "\n") : "\n");
         });
         element.normalize();
         return element;

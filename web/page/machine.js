@@ -3,6 +3,7 @@
 import { at, fromBase64 } from "./at.js";
 
 /** @typedef {import("./answers.js").Answer} Answer */
+/** @typedef {import("../zkit.js").Run} Run */
 /** @typedef {{kind: "score" | "time", name: string, first: number, second: number}} StatusLine */
 
 /**
@@ -46,7 +47,7 @@ export class Machine {
         /** @type {Map<number, {resolve: (it: any) => void, reject: (error: Error) => void}>} */
         this.waiting = new Map();
         this.number = 0;
-        /** @type {(text: string, script: string) => void} */
+        /** @type {(runs: Run[], script: string) => void} */
         this.onText = () => {};
         this.worker = new Worker(workerAddress());
         this.worker.onmessage = (event) => this.heard(event.data);
@@ -57,7 +58,7 @@ export class Machine {
     /** @param {any} data */
     heard(data) {
         if (data.number === undefined) {
-            this.onText(data.text, data.script);
+            this.onText(data.runs, data.script);
             return;
         }
         const call = this.waiting.get(data.number);
@@ -111,7 +112,7 @@ export class Machine {
     /**
      * Gives the story an answer, if any, and runs it.
      * @param {Answer | null} answer
-     * @param {(text: string, script: string) => void} onText
+     * @param {(runs: Run[], script: string) => void} onText
      * @returns {Promise<Standing>}
      */
     run(answer, onText) {

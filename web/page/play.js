@@ -6,6 +6,7 @@ import { fits, isRead } from "./answers.js";
 import { hideOver, showOver, showPaused, showRunning } from "./bars.js";
 import { Machine, Trapped } from "./machine.js";
 import { boxText } from "./screen.js";
+import { sound } from "./sound.js";
 import { sumOf } from "./sums.js";
 
 /** @typedef {import("./answers.js").Answer} Answer */
@@ -97,6 +98,11 @@ export class Play {
         /** @type {Mark | null} */
         this.here = null;
         this.chain = "";
+        /**
+         * The last bleep since the read before.
+         * @type {import("../zkit.js").Before | null}
+         */
+        this.bleep = null;
         this.turnText = "";
         /** @type {string[]} */
         this.lastRows = [];
@@ -308,7 +314,7 @@ export class Play {
         hideOver();
         const soon = setTimeout(() => showRunning("The story is running."), SOON);
         try {
-            return await this.unlessLeft(machine.run(answer, (text, script) => this.written(round, text, script)));
+            return await this.unlessLeft(machine.run(answer, (runs, script) => this.written(round, runs, script)));
         } finally {
             clearTimeout(soon);
             if (round === this.round)
@@ -318,15 +324,17 @@ export class Play {
 
     /**
      * @param {number} round
-     * @param {string} text
+     * @param {import("./machine.js").Run[]} runs
      * @param {string} script
      */
-    written(round, text, script) {
+    written(round, runs, script) {
         if (round !== this.round)
             return;
-        this.turnText += text;
+        this.turnText += runs.map((run) => run.text).join("");
         this.script += script;
-        this.log.text(text);
+        this.log.runs(runs);
+        for (const { before } of runs)
+            this.bleep = before.find((it) => it !== "erased") || this.bleep;
     }
 
     /**
@@ -493,6 +501,9 @@ export class Play {
         this.standing = standing;
         this.beBusy(false);
         this.screen.show(standing.rows, standing.status);
+        if (this.bleep)
+            sound(this.bleep);
+        this.bleep = null;
         const { awaits } = standing;
         if (awaits === "line" || awaits === "character") {
             this.reach(standing);

@@ -11,7 +11,7 @@ const SLICE = 500000;
 const ROOM = 32768;
 
 /** A snapshot has the limits that the page gave its story, which may be any. */
-const ANY = { frames: 65535, words: 65535, undo: 64, steps: 1000000000, room: ROOM };
+const ANY = { frames: 65535, words: 65535, undo: 64, steps: 1000000000, room: ROOM, styles: true };
 
 /** So many characters come at most before the reader is asked whether to go on. */
 const PAUSE = 200000;
@@ -109,11 +109,12 @@ function standing(awaits) {
 
 /** Posts what the story has written, and answers how much. */
 function postText() {
-    const text = game.text();
+    /** @type {import("../zkit.js").Run[]} */
+    const runs = game.runs();
     const script = game.transcript();
-    if (text || script)
-        page.postMessage({ text, script });
-    return text.length;
+    if (runs.length > 0 || script)
+        page.postMessage({ runs, script });
+    return runs.reduce((sum, run) => sum + run.text.length, 0);
 }
 
 /**
@@ -145,7 +146,7 @@ const CALLS = {
         return module.version();
     },
     open: ({ story: bytes, options }) => {
-        replace((it) => it.open(bytes, { ...options, room: ROOM }));
+        replace((it) => it.open(bytes, { ...options, room: ROOM, styles: true }));
         story = bytes;
         return about(game);
     },

@@ -46,6 +46,19 @@ export function repeating(text, count) {
     return storyOf([...all, ...jumpBack(all.length)]);
 }
 
+/**
+ * A story that shows text in bold and in roman, erases the screen, sounds a low bleep, shows an italic letter, sounds a
+ * high bleep, erases the lower window, reads a character and shows text with a fixed pitch.
+ */
+export function styled() {
+    const style = (number) => [0xf1, 0x7f, number];
+    const bleep = (number) => [0xf5, 0x7f, number];
+    const hi = [0xb2, 0xb5, 0xc5];
+    return storyOf([...style(2), ...hi, ...style(0), ...hi, 0xed, 0x3f, 0xff, 0xff, ...bleep(2), ...style(4),
+        0xbe, 0x0b, 0x7f, 0xe4, ...bleep(1), 0xed, 0x7f, 0x00, 0xf6, 0x7f, 0x01, 0x10, 0xe2, 0x57, 0x00, 0x11, 0x02,
+        ...hi, 0xba]);
+}
+
 /** A story that reads a line, and then saves again and again, whatever is answered. */
 export function asking() {
     return storyOf([...printed(">"), ...READ, 0xbe, 0x00, 0xff, 0x10, ...jumpBack(4)]);

@@ -3,7 +3,7 @@
 import { randomBytes } from "node:crypto";
 import { writeFileSync } from "node:fs";
 import { EXAMPLES, MENU, ROOT, basename, holds, join, native, readFileSync, same } from "./page.mjs";
-import { asking, counting, repeating, restoring, telling, tellingStatus } from "./stories.mjs";
+import { asking, counting, repeating, restoring, styled, telling, tellingStatus } from "./stories.mjs";
 
 const Z5 = join(EXAMPLES, "lighthouse.z5");
 
@@ -206,6 +206,21 @@ async function longLines(page) {
     const parts = await page.run(() => [...document.querySelectorAll("#log .turn span.text")].map((it) => it.textContent));
     same(parts.join(""), text, "the text");
     holds(parts.length > 1 && parts.every((part) => part.endsWith("\n")), `${parts.map((part) => part.slice(-9)).join("|")}`);
+}
+
+/** Text has its styles, beside others in a line too, and what comes after an erasure stands in a part of its own. */
+async function styles(page) {
+    const parts = () => [...document.querySelectorAll("#log .text")].map((text) => [...text.childNodes].map((node) =>
+        node.nodeType === Node.TEXT_NODE ? node.textContent : `${node.className}:${node.textContent}`).join("|")).join("/");
+    const looks = () => ["bold", "italic"].map((style) => getComputedStyle(document.querySelector(`#log .${style}`)))
+        .map((look) => `${look.fontWeight} ${look.fontStyle}`).join();
+    await page.fresh();
+    await play(page, styled(), "styled.z5");
+    same(await page.run(parts), "bold:hi|hi/italic:ä", "the text at the first read");
+    same(await page.run(looks), "700 normal,400 italic", "how it looks");
+    await page.browser.press("x");
+    await page.until(() => document.getElementById("over-words").textContent === "The story has ended.");
+    same(await page.run(parts), "bold:hi|hi/italic:ä/italic fixed:hi", "the text at the end");
 }
 
 /** What an answer brings is read from its start: the line that was typed is seen, and not the end of a long text. */
@@ -562,6 +577,7 @@ export const USING = [
     ["a story that restores before it reads", restoresFirst],
     ["a question that is left for another story", leftQuestion],
     ["lines that are longer than a part", longLines],
+    ["styles, and what is erased", styles],
     ["an answer is read from its start", startOfAnswer],
     ["a file that is dragged", draggedFile],
     ["a story that runs for long", longRun],

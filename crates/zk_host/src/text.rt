@@ -92,14 +92,14 @@ impl Text {
     }
 
     /// The first byte that waits.
-    pub fn first(&self) -> Option<u8>
+    pub(crate) fn first(&self) -> Option<u8>
         ensures { result ≡ slice_get self.now.bytes 0 }
     {
         self.bytes.get(0).copied()
     }
 
     /// How many bytes from an index on are the same as one, up to the first that is another.
-    pub fn same_from(&self, from: usize, byte: u8) -> usize
+    pub(crate) fn same_from(&self, from: usize, byte: u8) -> usize
         requires { from ≤ length self.now.bytes }
         ensures { result ≡ so_marked byte (drop from self.now.bytes) }
     {
@@ -114,7 +114,7 @@ impl Text {
     }
 
     /// Passes over bytes at the front.
-    pub fn pass(&mut self, count: usize)
+    pub(crate) fn pass(&mut self, count: usize)
         ensures { self.new ≡ record self.old { bytes = drop count self.old.bytes } }
     {
         for _i in 0..count {
