@@ -9,7 +9,14 @@ use Rattle.std.proofs.KnownBytes.{Appends-nil}
 use Rattle.std.specs.Io.KnownBytes.{Appends}
 use Rattle.zk_term.specs.Devices.{Sender, Sends, TookPart}
 use Rattle.zk_host.specs.declared.collected.Collected.{Collected}
-use Rattle.zk_host.specs.Collecting.{CollectsTexts, is_lost, most_past_room, waiting_of}
+use Rattle.zk_host.specs.Collecting.{Collects, CollectsTexts, is_lost, most_past_room, texts_nothing, waiting_of}
+use Rattle.zk_host.specs.Marks.{Marks, marked, marked_by, marked_if, marks_in}
+use Rattle.std.specs.Prelude.{None, bit_or, if◌then◌else◌}
+use Rattle.zk_term.specs.Signals.{script_in, text_in}
+use Rattle.zk_term.specs.Signals.Signal.{Script, Text}
+use Rattle.zk_term.specs.declared.style.Style.{Style}
+use Rattle.zk_host.specs.Texts.{Unread}
+use Rattle.zk_term.specs.Signals.{Signal, screen_text, script_text}
 
 -- ---- one device
 
@@ -199,3 +206,63 @@ left_over x a b = elim (cases_lt (a + b) x) [
   | inl more ↦ lt-leb (x - a) b (omega arith) ∙ sym (lt-leb x (a + b) more)
   | inr few ↦ le-leb (x - a) b (omega arith) ∙ sym (le-leb x (a + b) few)
 ]
+
+-- ---- signals
+
+-- nothing is collected once text is lost
+pub collects_lost : (a b : Collected) (l : List Signal) → is_lost b ≡ true → b.screen.bytes ≡ a.screen.bytes
+    → b.script.bytes ≡ a.script.bytes → b.room ≡ a.room → b.styled ≡ a.styled
+    → (b.too_much ≡ true → (a.too_much ≡ true) ⊎ (a.room + most_past_room ≤ waiting_of b)) → Collects a b l
+collects_lost a b l lost screen script room styled why = record {
+  texts = collects_none a b (screen_text l) (script_text l) lost screen script room why;
+  marks = λ works. let never = sym works ∙ lost in absurd cc;
+  kept = styled;
+}
+
+-- a character of the transcript marks nothing
+pub nothing_marked : (kept : Bool) (c : ℕ) (m : Marks) → m ≡ marked_if kept (Script c ∷ []) m
+unfolding marked
+nothing_marked true c m = refl
+nothing_marked false c m = refl
+
+-- a signal without text marks what comes next, where marks are kept
+pub collects_mark : (a b : Collected) (x : Signal) (mark : ℕ) → text_in x ≡ None → script_in x ≡ None
+    → ((m : Marks) → marked_by x m ≡ record m { before = bit_or m.before mark })
+    → b ≡ (if a.styled then record a { before = bit_or a.before mark } else a) → Collects a b (x ∷ [])
+unfolding marked
+collects_mark a b x mark text script marks is = by_kept a.styled refl is
+  where
+    by_kept : (kept : Bool) → a.styled ≡ kept → b ≡ (if kept then record a { before = bit_or a.before mark } else a)
+        → Collects a b (x ∷ [])
+    by_kept true kept same = rw same (record {
+      texts = rw (text, script) (record {
+        written = (texts_nothing a).written;
+        room = refl;
+        more = (texts_nothing a).more;
+        most = (texts_nothing a).most;
+        why = (texts_nothing a).why;
+      });
+      marks = λ works. rw kept (sym (marks (marks_in a)));
+      kept = refl;
+    })
+    by_kept false kept same = rw same (record {
+      texts = rw (text, script) (texts_nothing a);
+      marks = λ works. rw kept refl;
+      kept = refl;
+    })
+
+-- a character for the screen, with its marks
+pub collects_marked : (a m b : Collected) (c : ℕ) (style : Style) (screen : Unread) → is_lost a ≡ false
+    → waiting_of a < a.room + most_past_room → screen.bytes ≡ a.screen.bytes ++ encode_utf8 c
+    → m ≡ record a { screen = screen; marks = m.marks; before = m.before }
+    → (m.marks.failed ≡ false → marks_in m ≡ marked_if a.styled (Text c style ∷ []) (marks_in a))
+    → b ≡ record m { short = b.short } → Collects a b (Text c style ∷ [])
+collects_marked a m b c style screen works few took same marks short =
+    let whole : b ≡ record a { screen = screen; marks = m.marks; before = m.before; short = b.short } = short
+    ∙ ap (λ (x : Collected). record x { short = b.short }) same in
+    subst (λ (x : Collected). Collects a x (Text c style ∷ [])) (sym whole) (record {
+      texts = collects_screen a (record a { screen = screen; marks = m.marks; before = m.before; short = b.short }) c
+          works refl refl refl few took;
+      marks = λ kept. marks (marks_kept a.too_much screen.failed a.script.failed m.marks.failed kept);
+      kept = refl;
+    })

@@ -3,6 +3,7 @@ pub mod Handling
 pub mod Hearing
 pub mod Exporting
 pub mod Collecting
+mod Marking
 pub mod Encoding
 pub mod Naming
 pub mod Running

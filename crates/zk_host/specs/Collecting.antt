@@ -126,6 +126,7 @@ collects_nothing a = record { texts = texts_nothing a; marks = λ works. none a.
     none false = refl
 
 pub collects_twice : (a b c : Collected) (s t : List Signal) → Collects a b s → Collects b c t → Collects a c (s ++ t)
+unfolding Sends
 collects_twice a b c s t h k = record {
   texts = rw (filter_map-append text_in s t, filter_map-append script_in s t)
       (texts_twice a b c (screen_text s) (screen_text t) (script_text s) (script_text t) h.texts k.texts);

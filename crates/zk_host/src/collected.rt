@@ -2,7 +2,7 @@
 
 ghost use Rattle.std.specs.Prelude.{◌≡◌, ◌+◌, [], ◌∷◌, bit_or, false, if◌then◌else◌, nat_le, true, Some, slice_get};
 ghost use Rattle.zk_host.specs.Marks.{marked_if, marks_in, run_by, run_of, run_told, taken_from, with_styles};
-ghost use Rattle.zk_term.specs.Signals.Signal as signal;
+ghost use Rattle.zk_term.specs.Signals.Signal.{Text as TextSignal};
 ghost use Rattle.zk_host.specs.Collecting.{has_no_room, is_lost, most_past_room, nothing_collected, waiting_of};
 ghost use Rattle.zk_host.specs.Collecting.{wants_pause};
 
@@ -133,6 +133,7 @@ impl Collected {
         let style = mark % 16;
         let before = if self.told { 0 } else { mark / 16 * 16 };
         self.told = true;
+        self.marks.len();
         Run {
             length: self.marks.same_from(1, style) + 1,
             style: style as u32,
@@ -164,7 +165,7 @@ impl Collected {
     fn mark(&mut self, c: char, style: Style)
         ensures same { self.new ≡ record self.old { marks = self.new.marks; before = self.new.before } }
         ensures marked { self.new.marks.failed ≡ false
-            → marks_in self.new ≡ marked_if self.old.styled (signal.Text c style ∷ []) (marks_in self.old) }
+            → marks_in self.new ≡ marked_if self.old.styled (TextSignal c style ∷ []) (marks_in self.old) }
     {
         if !self.styled {
             return;

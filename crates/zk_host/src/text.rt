@@ -1,6 +1,6 @@
 // Text that waits to be taken.
 
-ghost use Rattle.std.specs.Prelude.{◌≡◌, ◌≤◌, ◌++◌, [], drop, false, length, min, slice_get, take};
+ghost use Rattle.std.specs.Prelude.{◌≡◌, ◌≤◌, ◌+◌, ◌++◌, [], drop, false, length, min, slice_get, take};
 ghost use Rattle.zk_host.specs.Marks.{so_marked};
 ghost use Rattle.zk_host.specs.Collecting.{no_text};
 ghost use Rattle.zk_host.specs.Exports.{IsPut};
@@ -101,7 +101,8 @@ impl Text {
     /// How many bytes from an index on are the same as one, up to the first that is another.
     pub(crate) fn same_from(&self, from: usize, byte: u8) -> usize
         requires { from ≤ length self.now.bytes }
-        ensures { result ≡ so_marked byte (drop from self.now.bytes) }
+        ensures value { result ≡ so_marked byte (drop from self.now.bytes) }
+        ensures within { from + result ≤ length self.now.bytes }
     {
         let mut count = 0;
         while from + count < self.bytes.len() {

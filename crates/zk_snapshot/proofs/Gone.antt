@@ -6,7 +6,6 @@ use Rattle.zk_term.specs.Grid.{no_cells}
 use Rattle.zk_term.specs.Windows.{Windows, character_printed, cursor_set, first_windows, forgotten, homed_below}
 use Rattle.zk_term.specs.Windows.{character_put, kept_if_lower, moved_right, next_row, split, window_selected}
 use Rattle.zk_term.specs.Windows.{with_height}
-use Rattle.zk_term.specs.declared.style.Style.{Style}
 use Rattle.zk_term.specs.declared.windows.Window.{Window}
 use Rattle.zk_term.specs.declared.windows.Window.TheVariants.{Lower, Upper}
 use Rattle.zk_snapshot.specs.Opening.{NothingGone}
@@ -30,9 +29,6 @@ pub put_gone : (c : ℕ) (w : Windows) → NothingGone w → NothingGone (charac
 unfolding character_printed
 put_gone c w h =
     put_by (c == 10) (moved_right (character_put c w)) (next_row 1 w) (character_gone c w h) (row_gone 1 w h)
-
-pub style_gone : (style : Style) (w : Windows) → NothingGone w → NothingGone (record w { style = style })
-style_gone style w h = h
 
 pub select_gone : (window : Window) (w : Windows) → NothingGone w → NothingGone (window_selected window w)
 unfolding window_selected

@@ -223,8 +223,7 @@ fn put_cursor(windows: &mut Windows, row: u16, column: u8)
 }
 
 /// Fills windows that are new.
-#[tactic(auto, using(crate::proofs::Gone::split_gone, crate::proofs::Gone::style_gone,
-    crate::proofs::Gone::select_gone))]
+#[tactic(auto, using(crate::proofs::Gone::split_gone, crate::proofs::Gone::select_gone))]
 pub(crate) fn fill_windows(reader: &mut Reader<'_>, windows: &mut Windows)
     requires { windows.old ≡ first_windows }
     ensures { NothingGone windows.new }

@@ -1,22 +1,35 @@
 use Rattle.std.proofs.Common.{◌∙◌, inl, inr, sym, refl}
 use Rattle.std.proofs.lemmas.Bool.{leb-true, leb-false}
-use Rattle.zk_host.proofs.Collecting.{collects_none, collects_script, collects_script_part, lost_script}
+use Rattle.zk_host.proofs.Collecting.{collects_lost, collects_script, collects_script_part, lost_script, nothing_marked}
 use Rattle.zk_host.proofs.collected.CollectedScreen.script.Goals as goal
 
 pub returns-then-is_lost : goal.returns-then-is_lost
-returns-then-is_lost c = collects_none _ _ _ _ (sym c.is_lost.ensures ∙ c.if-is_lost.true) refl refl refl (λ e. inl e)
+returns-then-is_lost c =
+    collects_lost _ _ _ (sym c.is_lost.ensures ∙ c.if-is_lost.true) refl refl refl refl (λ e. inl e)
 
 pub returns-then-is_overfull : goal.returns-then-is_overfull
 returns-then-is_overfull c =
-    collects_none _ _ _ _ refl refl refl refl (λ e. inr
-    (leb-true _ _ (sym c.is_overfull.ensures ∙ c.if-is_overfull.true)))
+    collects_lost _ _ _ refl refl refl refl refl
+    (λ e. inr (leb-true _ _ (sym c.is_overfull.ensures ∙ c.if-is_overfull.true)))
 
 pub returns-in-Ok : goal.returns-in-Ok
 returns-in-Ok c =
-    rw (c.keep_script_room.ensures) (collects_script _ _ c.args.c (sym c.is_lost.ensures ∙ c.if-is_lost.false)
-    refl refl refl (leb-false _ _ (sym c.is_overfull.ensures ∙ c.if-is_overfull.false)) c.in-Ok.ensures.all)
+    let works = sym c.is_lost.ensures ∙ c.if-is_lost.false in
+    let few = leb-false _ _ (sym c.is_overfull.ensures ∙ c.if-is_overfull.false) in
+    rw (c.keep_script_room.ensures) (record {
+      texts = collects_script _ _ c.args.c works refl refl refl few c.in-Ok.ensures.all;
+      marks = λ kept. nothing_marked c.args.self.now.styled c.args.c _;
+      kept = refl;
+    })
 
 pub returns-in-Err : goal.returns-in-Err
-returns-in-Err c = collects_script_part _ _ c.args.c (sym c.is_lost.ensures ∙ c.if-is_lost.false)
-    (lost_script _ _ _ c.in-Err.ensures.failed)
-    refl refl refl (leb-false _ _ (sym c.is_overfull.ensures ∙ c.if-is_overfull.false)) c.in-Err.ensures.part
+returns-in-Err c =
+    let works = sym c.is_lost.ensures ∙ c.if-is_lost.false in
+    let few = leb-false _ _ (sym c.is_overfull.ensures ∙ c.if-is_overfull.false) in
+    let lost = lost_script c.args.self.now.too_much c.args.self.now.screen.failed _ c.args.self.now.marks.failed
+    c.in-Err.ensures.failed in
+    record {
+      texts = collects_script_part _ _ c.args.c works lost refl refl refl few c.in-Err.ensures.part;
+      marks = λ kept. let never = sym kept ∙ lost in absurd cc;
+      kept = refl;
+    }
