@@ -107,8 +107,13 @@ impl Text {
         let mut count = 0;
         while from + count < self.bytes.len() {
             match self.bytes.get(from + count) {
-                Some(x) if *x == byte => count += 1,
-                _ => return count,
+                Some(x) => {
+                    if *x != byte {
+                        return count;
+                    }
+                    count += 1;
+                }
+                None => unreachable!(),
             }
         }
         count

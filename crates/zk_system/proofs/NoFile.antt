@@ -1,6 +1,6 @@
 -- A play for which no file of a saved game is named keeps and finds nothing.
 use Rattle.std.proofs.Common.{◌≡◌, ◌∙◌, true, false, [], ◌∷◌, Option, Some, None, ap, refl}
-use Rattle.zk_vm.specs.Log.Entry.{At, Shown, Scripted, Read, Offered, Asked, Stopped}
+use Rattle.zk_vm.specs.Log.Entry.{At, Shown, Read, Offered, Asked, Stopped}
 use Rattle.zk_vm.specs.Logged.{SlotDid}
 use Rattle.zk_system.specs.declared.save_file.SaveFile.{SaveFile}
 use Rattle.zk_system.specs.NoFile.{NothingIsKept}
@@ -25,8 +25,6 @@ nothing_is_kept before after (Asked file refusal ∷ l) none h =
 nothing_is_kept before after (At address ∷ l) none h =
     (tt, nothing_is_kept h.0 after l (ap (λ (s : SaveFile). s.place) h.1.0 ∙ none) h.1.1)
 nothing_is_kept before after (Shown c ∷ l) none h =
-    (tt, nothing_is_kept h.0 after l (ap (λ (s : SaveFile). s.place) h.1.0 ∙ none) h.1.1)
-nothing_is_kept before after (Scripted c ∷ l) none h =
     (tt, nothing_is_kept h.0 after l (ap (λ (s : SaveFile). s.place) h.1.0 ∙ none) h.1.1)
 nothing_is_kept before after (Read extra codes ∷ l) none h =
     (tt, nothing_is_kept h.0 after l (ap (λ (s : SaveFile). s.place) h.1.0 ∙ none) h.1.1)

@@ -11,4 +11,4 @@ returns-in-Ok-clause-marked c = λ works.
     let mark = c.style_mark-mark.result in
     let marks = first_marks c.len_utf8.result (bit_or mark c.args.self.now.before) mark
     c.len_utf8.ensures.lower_bound c.len_utf8.ensures.upper_bound in
-    rw (kept, c.in-Ok.ensures.all, marks, c.style_mark-mark.ensures) refl
+    rw (kept, c.in-Ok.ensures.all, marks, c.style_mark-mark.ensures, c.len_utf8.ensures.value) refl
