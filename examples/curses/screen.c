@@ -219,7 +219,8 @@ static uint8_t style_at(size_t i) {
 
 /* How a terminal shows a style. Many have no italic letters, so these are underlined. */
 static attr_t look_of(uint8_t its) {
-    return (its & ZKIT_REVERSE ? A_REVERSE : 0) | (its & ZKIT_BOLD ? A_BOLD : 0) | (its & ZKIT_ITALIC ? A_UNDERLINE : 0);
+    return (its & ZKIT_REVERSE ? A_REVERSE : 0) | (its & ZKIT_BOLD ? A_BOLD : 0)
+        | (its & ZKIT_ITALIC ? A_UNDERLINE : 0);
 }
 
 /* Draws a row of the text, each part in its style. */

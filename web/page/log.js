@@ -336,7 +336,8 @@ export class Log {
         lines.forEach((line, i) => {
             element.append(...styled(line, begin, ranges));
             begin += line.length + 1;
-            const isFixed = ranges.some(({ from, to, styles }) => from < begin && to > begin - 1 && styles.includes("fixed"));
+            const inLine = ranges.filter(({ from, to }) => from < begin && to > begin - 1);
+            const isFixed = inLine.some(({ styles }) => styles.includes("fixed"));
             const isSoft = !isFixed && i < lines.length - 1 && this.width.joins(line, lines[i + 1]);
             if (i < lines.length - 1)
                 element.append(isSoft ? made("span", "soft", "\n") : "\n");

@@ -1,5 +1,5 @@
 -- One character is collected, or lost.
-use Rattle.std.specs.Prelude.{encode_utf8, encode_utf8_all}
+use Rattle.std.specs.Prelude.{encode_utf8, encode_utf8_all, None, bit_or, if◌then◌else◌}
 use Rattle.std.proofs.Common.{◌≡◌, ◌∙◌, ◌≤◌, ◌<◌, ◌+◌, ◌-◌, ◌||◌, ◌⊎◌, inl, inr, nat_le, ℕ, Bool, true, false, List, []}
 use Rattle.std.proofs.Common.{◌∷◌, ◌++◌, Option, Some, length, sym, refl, ap, subst, append-nil, arith}
 use Rattle.std.proofs.lemmas.Bool.{cases_lt, le-leb, lt-leb}
@@ -11,12 +11,10 @@ use Rattle.zk_term.specs.Devices.{Sender, Sends, TookPart}
 use Rattle.zk_host.specs.declared.collected.Collected.{Collected}
 use Rattle.zk_host.specs.Collecting.{Collects, CollectsTexts, is_lost, most_past_room, texts_nothing, waiting_of}
 use Rattle.zk_host.specs.Marks.{Marks, marked, marked_by, marked_if, marks_in}
-use Rattle.std.specs.Prelude.{None, bit_or, if◌then◌else◌}
-use Rattle.zk_term.specs.Signals.{script_in, text_in}
+use Rattle.zk_term.specs.Signals.{script_in, text_in, Signal, screen_text, script_text}
 use Rattle.zk_term.specs.Signals.Signal.{Script, Text}
 use Rattle.zk_term.specs.declared.style.Style.{Style}
 use Rattle.zk_host.specs.Texts.{Unread}
-use Rattle.zk_term.specs.Signals.{Signal, screen_text, script_text}
 
 -- ---- one device
 

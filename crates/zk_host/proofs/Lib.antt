@@ -7,3 +7,4 @@ mod Marking
 pub mod Encoding
 pub mod Naming
 pub mod Running
+pub mod guards

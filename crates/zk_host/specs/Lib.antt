@@ -12,3 +12,4 @@ pub mod Numbers
 pub mod Exports
 pub mod Files
 pub mod Within
+pub mod guards

@@ -1,7 +1,24 @@
 -- How the bytes of a text are marked that waits for a host: with the style in which they are shown (Standard, section
 -- 8.7.1), and with what came before them.
-use Rattle.std.specs.Prelude.{ℕ, ◌+◌, ◌-◌, ◌%◌, ◌/◌, ◌*◌, ◌==◌, Bool, true, false, List, [], ◌∷◌, ◌++◌, bit_or, drop,
-    length}
+use Rattle.std.specs.Prelude.{
+  ℕ,
+  ◌+◌,
+  ◌-◌,
+  ◌%◌,
+  ◌/◌,
+  ◌*◌,
+  ◌==◌,
+  Bool,
+  true,
+  false,
+  List,
+  [],
+  ◌∷◌,
+  ◌++◌,
+  bit_or,
+  drop,
+  length,
+}
 use Rattle.std.specs.Prelude.{nat_lt, replicate, if◌then◌else◌, ◌&&◌}
 use Rattle.std.specs.Char.{len_utf8}
 use Rattle.zk_term.specs.Signals.{Signal}

@@ -16,7 +16,7 @@ name_nothing e a = texts_nothing a
 
 pub name_twice : (e f : ExtraTable) (a b c : Collected) (s t : List TextUnit) → f ≡ e
     → CollectsTexts a b (shown_all e s) [] → CollectsTexts b c (shown_all f t) []
-        → CollectsTexts a c (shown_all e (s ++ t)) []
+    → CollectsTexts a c (shown_all e (s ++ t)) []
 name_twice e f a b c s t same h k =
     subst (λ (cs : List ℕ). CollectsTexts a c cs []) (sym (shown_all-append e s t))
     (texts_twice a b c _ _ [] [] h (subst (λ (x : ExtraTable). CollectsTexts b c (shown_all x t) []) same k))

@@ -4,6 +4,7 @@
 mod bounded;
 mod collected;
 pub mod drawing;
+pub mod examples;
 pub mod facts;
 pub mod files;
 pub mod handle;

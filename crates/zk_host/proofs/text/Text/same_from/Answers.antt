@@ -27,7 +27,8 @@ returns-then-x-byte-clause-value c =
     let is : c.in-Some.x.now ≡ get_or bytes k c.in-Some.x.now = c.in-Some.ensures.lookup
     ∙ ap (λ (l : List ℕ). get_or l k c.in-Some.x.now) there in
     let other : c.in-Some.x.now ≢ c.args.byte = search rules in
-    let off = same_off c.args.byte bytes k c.in-Some.x.now low (λ (on : get_or bytes k c.in-Some.x.now ≡ c.args.byte). other (is ∙ on)) in
+    let off = same_off c.args.byte bytes k c.in-Some.x.now low (λ (on : get_or bytes k c.in-Some.x.now
+    ≡ c.args.byte). other (is ∙ on)) in
     omega (arith, c.loop-count.invariant.same, off)
 
 pub returns : goal.returns

@@ -1,0 +1,11 @@
+// Worked examples of the definitions, which refuse one that is turned together with its body.
+
+ghost use Rattle.zk_host.specs.guards.Examples.{StylesHaveMarks, SignalsMark, RunsAreTold};
+
+/// Styles, erasures and bleeps before characters, and their runs.
+#[tactic(auto, unfolding(crate::proofs::guards::Opened::examples))]
+pub fn marks_by_example()
+    ensures styles_have_marks { StylesHaveMarks }
+    ensures signals_mark { SignalsMark }
+    ensures runs_are_told { RunsAreTold }
+{}
