@@ -781,8 +781,8 @@ function styles(module) {
 async function worker() {
     const waiting = new Map();
     let calls = 0;
-    let shown = "";
-    const hear = ({ number, text, ...came }) => number === undefined ? shown += text : waiting.get(number)(came);
+    let shown = [];
+    const hear = ({ number, runs, ...came }) => number === undefined ? shown.push(...runs) : waiting.get(number)(came);
     globalThis.self = { postMessage: hear };
     await import("./page/worker.js");
     const call = (name, values) => new Promise((resolve) => {
@@ -798,9 +798,14 @@ async function worker() {
     const { refused } = await call("resume", { story, snapshot: result.snapshot });
     want(refused === undefined, `it opens its own snapshot: ${refused}`);
     await call("run", { answer: null });
-    shown = "";
+    shown = [];
     const next = await call("run", { answer: "take letter" });
-    want(next.result.awaits === "line" && shown.includes("Taken."), "it goes on from there");
+    const text = shown.map((run) => run.text).join("");
+    want(next.result.awaits === "line" && text.includes("Taken."), "it goes on from there");
+    shown = [];
+    await call("run", { answer: "north" });
+    const bold = shown.filter((run) => run.styles.includes("bold")).map((run) => run.text);
+    want(bold.join("|") === "Shore Path", `it tells what is bold: ${bold.join("|")}`);
     const fresh = await call("run", { answer: { fresh: true } });
     want(fresh.result.awaits === "line", "it goes on from a snapshot of its own in place of an answer");
 }
