@@ -44,7 +44,7 @@ fn print_line(memory: &Memory, text: Option<u32>) -> Result<Effect, Fault>
     })
 }
 
-/// The effect of an opcode that prints. Signals are checked before anything is shown.
+/// The effect of an opcode that prints. Texts are checked before anything is shown.
 #[tactic(auto, unfolding(crate::specs::Printing::printing))]
 pub fn printing_effect(
     operation: Printing,
