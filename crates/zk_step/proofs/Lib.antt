@@ -1,3 +1,4 @@
+pub mod Agreeing
 pub mod Arguments
 pub mod Behaviours
 pub mod Ends
@@ -26,6 +27,7 @@ pub mod SameStory
 pub mod Showing
 pub mod Steps
 pub mod Sweep
+pub mod Terminators
 pub mod UpperRows
 pub mod Viewing
 pub mod Ways

@@ -38,6 +38,7 @@ use Rattle.zk_text.specs.Words.{z_characters}
 use Rattle.zk_mem.specs.Words.{words_in, words_at, text_end_at}
 use Rattle.zk_step.specs.Idle.{idle}
 use Rattle.zk_tables.specs.Runs.{bytes_put, places, bytes_read}
+use Rattle.zk_step.specs.Terminating.{is_terminating, terminating_at, up_to_zero}
 use Rattle.zk_step.specs.TextBuffers.{early_line_put, later_line_put, divided_into_words, line_put}
 use Rattle.zk_text.specs.Keys.{place_from, a2_place, spelling, spellings, fives, key_of}
 use Rattle.zk_tables.specs.Dictionaries.{dictionary_byte, dictionary_word, dictionary_by, dictionary_at, bytes_from}
@@ -88,7 +89,7 @@ unfolding arithmetic shifted_left shifted_right sign_shifted comparison equals_a
     has_key found_from found_in is_separator is_letter run token_here tokens_from tokens letters_counted
     letters_to_zero letters_of word_in words_of block_put blocks_put words_put tokenised words_changed reading
     line_answered character_answered carried_out effect_of routed newest_of first_windows ends_line script_is_on
-    style_shown streamed_all window_effect within_bounds sizes_of
+    style_shown streamed_all window_effect within_bounds sizes_of is_terminating terminating_at up_to_zero
 examples = tt
 
 -- the definitions that are opened in push effect

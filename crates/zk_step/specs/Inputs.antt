@@ -20,14 +20,15 @@ reading Sread vs = awaits (Line (first vs) (second vs))
 reading Aread vs = awaits (Line (first vs) (second vs))
 reading ReadChar vs = awaits Char
 
--- from version 5 on a line gives the code that ended it, a new line
-abbrev pub line_result : ℕ → Option ℕ
-line_result version = if nat_lt version 5 then None else Some 13
+-- from version 5 on a line gives the code that ended it
+abbrev pub line_result : ℕ → ℕ → Option ℕ
+line_result version ended = if nat_lt version 5 then None else Some ended
 
--- a read is answered by a line's codes: it is stored and divided into words, and the instruction is finished
-unfoldable pub line_answered : GameState → Instr → ℕ → ℕ → List ℕ → Result (GameState × ℕ) Fault
-line_answered w i text parse line =
-    line_put w.memory text parse line >>= λ m. gone_on (with_memory w m) i (line_result m.version) None
+-- a read is answered by a line's codes, and the one that ended it: it is stored and divided into words, and the
+-- instruction is finished
+unfoldable pub line_answered : GameState → Instr → ℕ → ℕ → List ℕ → ℕ → Result (GameState × ℕ) Fault
+line_answered w i text parse line ended =
+    line_put w.memory text parse line >>= λ m. gone_on (with_memory w m) i (line_result m.version ended) None
 
 -- an instruction is finished by a result and a truth, once these are known: where it stores the one, where it branches
 -- by the other

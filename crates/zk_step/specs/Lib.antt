@@ -33,5 +33,6 @@ pub mod Selecting
 pub mod Silence
 pub mod Status
 pub mod Tables
+pub mod Terminating
 pub mod Screens
 pub mod guards

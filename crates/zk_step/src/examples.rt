@@ -29,9 +29,9 @@ ghost use Rattle.zk_step.specs.guards.ReadingExamples.{CountsAreStored, LinesAre
 ghost use Rattle.zk_step.specs.guards.ReadingExamples.{LaterLinesInOrder, EarlyLinesAreDivided, LaterLinesAreDivided};
 ghost use Rattle.zk_step.specs.guards.ReadingExamples.{ParseBufferAtZero, LinesAreAnsweredInOrder};
 ghost use Rattle.zk_step.specs.guards.ReadingExamples.{TokeniseByADictionary, TokeniseByAFlag, KeysAreStored};
-ghost use Rattle.zk_step.specs.guards.ReadingExamples.{KeysOfAnyLength, KeysInOrder, ReadsWait, LinesGiveThirteen};
+ghost use Rattle.zk_step.specs.guards.ReadingExamples.{KeysOfAnyLength, KeysInOrder, ReadsWait, LinesGiveTheirEnd};
 ghost use Rattle.zk_step.specs.guards.ReadingExamples.{LinesBeforeTheirResult, EarlyLinesGiveNothing};
-ghost use Rattle.zk_step.specs.guards.ReadingExamples.{CharactersAreGiven};
+ghost use Rattle.zk_step.specs.guards.ReadingExamples.{CharactersAreGiven, KeysEndLines};
 ghost use Rattle.zk_step.specs.guards.InstructionExamples.{CarriesOutASubtraction, CarriesOutABranch};
 ghost use Rattle.zk_step.specs.guards.InstructionExamples.{CarriesOutPrinting, CarriesOutInput, BoundsAreLookedFor};
 ghost use Rattle.zk_step.specs.guards.InstructionExamples.{NoBoundAtTheEnd, NoBoundWhereItWaits};
@@ -179,10 +179,11 @@ pub fn words_by_example()
 /// Reads and their answers (Standard, section 15, `sread`, `aread` and `read_char`).
 pub fn inputs_by_example()
     ensures reads_wait { ReadsWait }
-    ensures lines_give_thirteen { LinesGiveThirteen }
+    ensures lines_give_their_end { LinesGiveTheirEnd }
     ensures lines_before_their_result { LinesBeforeTheirResult }
     ensures early_lines_give_nothing { EarlyLinesGiveNothing }
     ensures characters_are_given { CharactersAreGiven }
+    ensures keys_end_lines { KeysEndLines }
 {}
 
 /// Whole instructions.

@@ -2,4 +2,5 @@
 
 pub mod inputs;
 pub mod story_words;
+pub mod terminating;
 pub mod text_buffers;

@@ -18,7 +18,8 @@ use Rattle.zk_step.specs.Resuming.{resumed as back}
 use Rattle.zk_step.specs.Routing.{Signals, no_signals}
 use Rattle.zk_step.proofs.Sweep.{answers_leave_stories}
 use Rattle.zk_vm.specs.declared.waiting.Waiting.{Waiting}
-use Rattle.zk_vm.specs.Answers.{Answer, answered, answered_by, answer_settled, codes_of, file_of, first_code, is_kept}
+use Rattle.zk_vm.specs.Answers.{Answer, answered, answered_by, answer_settled, codes_of, end_of, file_of, first_code}
+use Rattle.zk_vm.specs.Answers.{is_kept}
 use Rattle.zk_vm.specs.Answers.{limit_of, none_restored, restored_from, restored_to, transcribed, truth_word}
 use Rattle.zk_vm.specs.Step.{State, Step, goes_to, is_read, step_by}
 use Rattle.zk_vm.specs.Step.Step.{Goes, Waits}
@@ -50,7 +51,8 @@ file_free s i None = none_free s i None
 file_free s i (Some file) = restored_free s i (restored file s.game.memory s.game.frames)
 
 by_free : (s : State) (i : Instr) (x : Event) (a : Answer) → NoWait (answered_by s i x a)
-by_free s i (event.Line text parse) a = free_by _ (line_answered s.game i text parse (codes_of a)) (λ y. tt)
+by_free s i (event.Line text parse) a =
+    free_by _ (line_answered s.game i text parse (codes_of a) (end_of a)) (λ y. tt)
 by_free s i event.Char a = free_by _ (character_answered s.game i (first_code (codes_of a))) (λ y. tt)
 by_free s i event.Save a = free_by _ (result_answered s.game i (truth_word (is_kept a)) (is_kept a)) (λ y. tt)
 by_free s i event.Restore a = file_free s i (file_of a)
@@ -147,9 +149,10 @@ from_on s i (Some file) = restored_to_on s i (restored file s.game.memory s.game
 
 by_on : (s : State) (i : Instr) (x : Event) (a : Answer) → AnswersOn (is_read x) s (answered_by s i x a)
 by_on s i (event.Line buffer parse) a =
-    settled_on s (transcribed s.game (event.Line buffer parse) (codes_of a))
-    (line_answered s.game i buffer parse (codes_of a))
-    (λ x e. same_most s.game.memory x.0.memory (answers_leave_stories.line s.game i buffer parse (codes_of a) x e))
+    settled_on s (transcribed s.game (event.Line buffer parse) (codes_of a) (end_of a))
+    (line_answered s.game i buffer parse (codes_of a) (end_of a))
+    (λ x e. same_most s.game.memory x.0.memory
+    (answers_leave_stories.line s.game i buffer parse (codes_of a) (end_of a) x e))
 by_on s i event.Char a = settled_on s [] (character_answered s.game i (first_code (codes_of a)))
     (λ x e. same_most s.game.memory x.0.memory (answers_leave_stories.character s.game i (first_code (codes_of a)) x e))
 by_on s i event.Save a = goes_on s (result_answered s.game i (truth_word (is_kept a)) (is_kept a))

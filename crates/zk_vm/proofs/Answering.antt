@@ -11,7 +11,7 @@ use Rattle.zk_state.specs.declared.refusal.Refusal.{Refusal}
 use Rattle.zk_state.specs.declared.refusal.Refusal.TheVariants as refusal
 use Rattle.zk_state.specs.declared.refusal.Limit.{Limit}
 use Rattle.zk_save.specs.States.{AreOf, UndoStates, WholeState, gone_back, memory_back, states_in}
-use Rattle.zk_term.specs.Windows.{Windows, forgotten}
+use Rattle.zk_term.specs.Windows.{Windows}
 use Rattle.zk_step.specs.declared.state.ending.Event.{Event}
 use Rattle.zk_step.specs.declared.state.ending.Event.TheVariants as event
 use Rattle.zk_step.specs.declared.state.game_state.GameState.{GameState}
@@ -247,15 +247,15 @@ read_sound m n w led is waits read limits free steps reads undo same bounds stop
     (fixed x e) bounds))
 
 reads_char : (s : State) (w : Waiting) (code : ℕ) → w.wait ≡ event.Char
-    → answered s w (Typed (code ∷ [])) ≡ answer_settled s [] (character_answered s.game w.instruction code)
+    → answered s w (Typed (code ∷ []) 13) ≡ answer_settled s [] (character_answered s.game w.instruction code)
 unfolding answered
 reads_char s w code e = rw e refl
 
-reads_line : (s : State) (w : Waiting) (text parse : ℕ) (codes : List ℕ) → w.wait ≡ event.Line text parse
-    → answered s w (Typed codes) ≡ answer_settled s (transcribed s.game (event.Line text parse) codes)
-    (line_answered s.game w.instruction text parse codes)
+reads_line : (s : State) (w : Waiting) (text parse : ℕ) (codes : List ℕ) (ended : ℕ) → w.wait ≡ event.Line text parse
+    → answered s w (Typed codes ended) ≡ answer_settled s (transcribed s.game (event.Line text parse) codes ended)
+    (line_answered s.game w.instruction text parse codes ended)
 unfolding answered
-reads_line s w text parse codes e = rw e refl
+reads_line s w text parse codes ended e = rw e refl
 
 pub char_fixed : (m : Inside) (w : Waiting) (code : ℕ) (led : Result ℕ Refusal) (v : GameState)
     → Told led (limited_pc (character_answered m.game w.instruction code)) v → (n : ℕ) → led ≡ Ok n
@@ -263,12 +263,12 @@ pub char_fixed : (m : Inside) (w : Waiting) (code : ℕ) (led : Result ℕ Refus
 char_fixed m w code led v told = told_on led (character_answered m.game w.instruction code) v told
     (λ n e. answers_leave_stories.character m.game w.instruction code (v, n) e)
 
-pub line_fixed : (m : Inside) (w : Waiting) (text parse : ℕ) (codes : List ℕ) (led : Result ℕ Refusal)
-    (v : GameState) → Told led (limited_pc (line_answered m.game w.instruction text parse codes)) v
+pub line_fixed : (m : Inside) (w : Waiting) (text parse : ℕ) (codes : List ℕ) (ended : ℕ) (led : Result ℕ Refusal)
+    (v : GameState) → Told led (limited_pc (line_answered m.game w.instruction text parse codes ended)) v
     → (n : ℕ) → led ≡ Ok n → fixed_parts v.memory ≡ fixed_parts m.game.memory
-line_fixed m w text parse codes led v told =
-    told_on led (line_answered m.game w.instruction text parse codes) v told
-    (λ n e. answers_leave_stories.line m.game w.instruction text parse codes (v, n) e)
+line_fixed m w text parse codes ended led v told =
+    told_on led (line_answered m.game w.instruction text parse codes ended) v told
+    (λ n e. answers_leave_stories.line m.game w.instruction text parse codes ended (v, n) e)
 
 pub char_answered : (m : Inside) (w : Waiting) (code : ℕ) (due : List ℕ) (led : Result ℕ Refusal) (v : GameState)
     (pc : ℕ) (stopped : Option Stop) → IsSound m → m.waiting ≡ Some w
@@ -276,33 +276,34 @@ pub char_answered : (m : Inside) (w : Waiting) (code : ℕ) (due : List ℕ) (le
     → Told led (limited_pc (character_answered m.game w.instruction code)) v → pc ≡ pc_by m.pc led
     → stopped ≡ stopped_by m.stopped (verdict_by m.pc led)
     → IsLeftAs (reading (seen m) v pc due (states_in v.memory.file m.undo) stopped)
-    (given (seen m) (Typed (code ∷ []))) (given (seen m) (Typed (code ∷ []))).stopped
+    (given (seen m) (Typed (code ∷ []) 13)) (given (seen m) (Typed (code ∷ []) 13)).stopped
 char_answered m w code due led v pc stopped is waits reading_char none told at stops =
     let can = answerable m w is waits in
     let here = reads_char (state_seen m) w code (awaits m.waiting w event.Char waits reading_char) in
-    let done : answered (state_seen m) w (Typed (code ∷ [])) ≡ answer_settled (state_seen m) due
+    let done : answered (state_seen m) w (Typed (code ∷ []) 13) ≡ answer_settled (state_seen m) due
     (character_answered m.game w.instruction code) = rw none here in
-    read_answered (seen m) w (Typed (code ∷ [])) due (states_in v.memory.file m.undo)
+    read_answered (seen m) w (Typed (code ∷ []) 13) due (states_in v.memory.file m.undo)
     (character_answered m.game w.instruction code) led v pc stopped waits can.runs done told at stops
     (λ n e. same_states m.game.memory v.memory m.undo (answers_leave_stories.character m.game w.instruction
     code (v, n) e))
 
-pub line_typed : (m : Inside) (w : Waiting) (text parse : ℕ) (codes due : List ℕ) (led : Result ℕ Refusal)
-    (v : GameState) (pc : ℕ) (stopped : Option Stop) → IsSound m → m.waiting ≡ Some w → w.wait ≡ event.Line text parse
-    → due ≡ transcribed m.game (event.Line text parse) codes
-    → Told led (limited_pc (line_answered m.game w.instruction text parse codes)) v → pc ≡ pc_by m.pc led
+pub line_typed : (m : Inside) (w : Waiting) (text parse : ℕ) (codes : List ℕ) (ended : ℕ) (due : List ℕ)
+    (led : Result ℕ Refusal) (v : GameState) (pc : ℕ) (stopped : Option Stop) → IsSound m → m.waiting ≡ Some w
+    → w.wait ≡ event.Line text parse
+    → due ≡ transcribed m.game (event.Line text parse) codes ended
+    → Told led (limited_pc (line_answered m.game w.instruction text parse codes ended)) v → pc ≡ pc_by m.pc led
     → stopped ≡ stopped_by m.stopped (verdict_by m.pc led)
-    → IsLeftAs (reading (seen m) v pc due (states_in v.memory.file m.undo) stopped) (given (seen m) (Typed codes))
-    (given (seen m) (Typed codes)).stopped
-line_typed m w text parse codes due led v pc stopped is waits line transcript told at stops =
+    → IsLeftAs (reading (seen m) v pc due (states_in v.memory.file m.undo) stopped)
+    (given (seen m) (Typed codes ended)) (given (seen m) (Typed codes ended)).stopped
+line_typed m w text parse codes ended due led v pc stopped is waits line transcript told at stops =
     let can = answerable m w is waits in
-    let here = reads_line (state_seen m) w text parse codes line in
-    let done : answered (state_seen m) w (Typed codes) ≡ answer_settled (state_seen m) due
-    (line_answered m.game w.instruction text parse codes) = rw transcript here in
-    read_answered (seen m) w (Typed codes) due (states_in v.memory.file m.undo)
-    (line_answered m.game w.instruction text parse codes) led v pc stopped waits can.runs done told at stops
+    let here = reads_line (state_seen m) w text parse codes ended line in
+    let done : answered (state_seen m) w (Typed codes ended) ≡ answer_settled (state_seen m) due
+    (line_answered m.game w.instruction text parse codes ended) = rw transcript here in
+    read_answered (seen m) w (Typed codes ended) due (states_in v.memory.file m.undo)
+    (line_answered m.game w.instruction text parse codes ended) led v pc stopped waits can.runs done told at stops
     (λ n e. same_states m.game.memory v.memory m.undo (answers_leave_stories.line m.game w.instruction text parse
-    codes (v, n) e))
+    codes ended (v, n) e))
 
 -- a file that is refused, but for a limit, is none
 pub refused_on : (w : GameState) (i : Instr) (file : List ℕ) (e : RestoreError)
@@ -423,18 +424,19 @@ can_still s v l stopped (Some w) can =
       fetched = can.fetched;
     }
 
-pub grid_forgotten : (m : Inside) → IsSound m
-    → IsSound (record m { game = record m.game { windows = forgotten m.game.windows } })
-grid_forgotten m is = record {
+-- whatever its windows are
+pub windows_changed : (m : Inside) (windows : Windows) → IsSound m
+    → IsSound (record m { game = record m.game { windows = windows } })
+windows_changed m windows is = record {
   steps = is.steps;
   bounds = is.bounds;
   reads = is.reads;
   most = is.most;
   story = story_same m.stopped is.story;
-  waits = can_still (state_seen m) (forgotten m.game.windows) m.limits m.stopped m.waiting is.waits;
+  waits = can_still (state_seen m) windows m.limits m.stopped m.waiting is.waits;
 }
   where
     story_same : (x : Option Stop) → WhileRunning x (IsOfStory m)
-        → WhileRunning x (IsOfStory (record m { game = record m.game { windows = forgotten m.game.windows } }))
+        → WhileRunning x (IsOfStory (record m { game = record m.game { windows = windows } }))
     story_same None has = record { are_of = has.are_of; memory = has.memory; cache = has.cache }
     story_same (Some stop) has = tt

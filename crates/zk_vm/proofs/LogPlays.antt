@@ -476,7 +476,7 @@ abbrev pub read_entries : Session → List ℕ → Session → List Entry
 read_entries mid codes next = Read (own_characters mid.state.game.memory) codes ∷ stop_told next.stopped
 
 read_is : (s : Session) (e : Event) (codes : List ℕ) → is_read e ≡ true
-    → heard_by s e (Typed codes) ≡ Read (own_characters s.state.game.memory) codes
+    → heard_by s e (Typed codes 13) ≡ Read (own_characters s.state.game.memory) codes
 read_is s (event.Line text parse) codes h = refl
 read_is s event.Char codes h = refl
 read_is s event.Save codes h = absurd cc
@@ -654,7 +654,7 @@ module _ {K P : Type 0} (t : SlotTells K) (notes : P → P → List ℕ → Type
       (log : List Entry) (e : Event) (codes : List ℕ) → PlayLog start now slot0 slot1 p q a b log
       → (u : Turns t (notes q r) slot1 slot2 now mid (Ok e) false b c)
       → mid.stopped ≡ None → event_waited mid.waiting ≡ Some e → is_read e ≡ true
-      → IsLeftAs next (given mid (Typed codes)) (given mid (Typed codes)).stopped
+      → IsLeftAs next (given mid (Typed codes 13)) (given mid (Typed codes 13)).stopped
       → PlayLog start next slot0 slot2 p r a c (log ++ (u.log ++ read_entries mid codes next))
   play_goes start now mid next slot0 slot1 slot2 p q r a b c log e codes s u runs waits reads left =
       let x = read_entries mid codes next in
@@ -662,7 +662,7 @@ module _ {K P : Type 0} (t : SlotTells K) (notes : P → P → List ℕ → Type
       let silent = read_silent extra codes next.stopped in
       let there : IsLog now u.log mid = subst (λ (m : Session). IsLog now u.log m) (sym u.ends.1) u.is in
       let read : IsLog mid x next = subst (λ (y : Entry). IsLog mid (y ∷ stop_told next.stopped) next)
-      (read_is mid e codes reads) (answer_logged mid next e (Typed codes) runs waits left) in
+      (read_is mid e codes reads) (answer_logged mid next e (Typed codes 13) runs waits left) in
       let did : SlotDid t (answers_in u.log) slot1 slot2 = subst (λ (k : K). SlotDid t (answers_in u.log) slot1 k)
       (sym (same_slot t u.to e u.slot slot2 u.left)) u.did in
       let places = waits_noted (notes q r) u.log u.to e u.ends.2 u.noted in

@@ -49,7 +49,7 @@ still_on : (s : Session) (t : State) → IsOn s → t.due ≡ [] → IsOn (recor
 still_on s t on silent = record { runs = on.runs; free = on.free; silent = silent }
 
 -- one that waits for nothing gets no answer
-stays : (s : Session) → IsOn s → moved s (Gets (Typed [])) ≡ record { entries = []; to = s }
+stays : (s : Session) → IsOn s → moved s (Gets (Typed [] 13)) ≡ record { entries = []; to = s }
 stays s on = rw (on.runs, on.free) refl
 
 -- ---- steps that are made in silence
@@ -150,9 +150,9 @@ module _ {S : Type 0} (shows : S → S → Signals → Type 0) (nothing : (a : S
       → AtLast shows holds a b old s log
   last_silent holds a now b old s log on is got gets before after =
       let none = stays s on in
-      let gets_none : shows now b (signals (moved s (Gets (Typed []))).entries) =
+      let gets_none : shows now b (signals (moved s (Gets (Typed [] 13))).entries) =
       subst (λ (p : Passed). shows now b (signals p.entries)) (sym none) gets in
-      let last = last_by holds a now b old s log (Gets (Typed [])) is got gets_none before after in
+      let last = last_by holds a now b old s log (Gets (Typed [] 13)) is got gets_none before after in
       subst (λ (l : List Entry). AtLast shows holds a b old s l) (append-nil log)
       (subst (λ (p : Passed). AtLast shows holds a b old p.to (log ++ p.entries)) none last)
 

@@ -229,11 +229,11 @@ module _ {S : Type 0} (shows : S → S → Signals → Type 0) (nothing : (a : S
     silent_since : (holds : S → Bool) (a b : S) (u : Session) → IsOn u → shows a b [] → holds a ≡ false
         → holds b ≡ true → AtLast shows holds a b u u []
     silent_since holds a b u on gets before after =
-        let none : moved u (Gets (Typed [])) ≡ record { entries = []; to = u } = rw (on.runs, on.free) refl in
-        let gets_none : shows a b (signals (moved u (Gets (Typed []))).entries) =
+        let none : moved u (Gets (Typed [] 13)) ≡ record { entries = []; to = u } = rw (on.runs, on.free) refl in
+        let gets_none : shows a b (signals (moved u (Gets (Typed [] 13))).entries) =
         subst (λ (p : Passed). shows a b (signals p.entries)) (sym none) gets in
         subst (λ (p : Passed). AtLast shows holds a b u p.to p.entries) none
-        (since holds a b u (Gets (Typed [])) gets_none before after)
+        (since holds a b u (Gets (Typed [] 13)) gets_none before after)
 
     -- where a machine does not go on
     pub ended_on : (bound : ℕ) (a b : S) (s new : Session) (half : Option Half) (codes : List ℕ) (draft : Windows)

@@ -42,7 +42,8 @@ use Rattle.zk_step.proofs.Sweep.{EndsInto, GoesOnInto, ResumesInto, StaysInside,
 use Rattle.zk_step.proofs.Sweep.{character_inside, line_inside, result_inside}
 use Rattle.zk_step.proofs.Sweep as sweep
 use Rattle.zk_vm.specs.declared.waiting.Waiting.{Waiting}
-use Rattle.zk_vm.specs.Answers.{Answer, answer_settled, answered, answered_by, codes_of, file_of, first_code, is_kept}
+use Rattle.zk_vm.specs.Answers.{Answer, answer_settled, answered, answered_by, codes_of, end_of, file_of, first_code}
+use Rattle.zk_vm.specs.Answers.{is_kept}
 use Rattle.zk_vm.specs.Answers.{limit_of, none_restored, restored_from, restored_to, transcribed, truth_word}
 use Rattle.zk_vm.specs.Inside.{FramesReturn, is_restore}
 use Rattle.zk_vm.specs.Log.{Move}
@@ -330,9 +331,9 @@ module _ (m : MemoryMap) (P : ℕ → Type 0) where
   by_inside : (s : State) (i : Instr) (x : Event) (a : Answer) → Inside s → GoesOnInto P i
       → FilesInto s (record { wait = x; instruction = i }) a → StepsInto (answered_by s i x a)
   by_inside s i (event.Line text parse) a h on files =
-      answer_inside s (transcribed s.game (event.Line text parse) (codes_of a))
-      (line_answered s.game i text parse (codes_of a)) h
-      (λ r e. line_inside P s.game (in_game s h) i text parse (codes_of a) r on e)
+      answer_inside s (transcribed s.game (event.Line text parse) (codes_of a) (end_of a))
+      (line_answered s.game i text parse (codes_of a) (end_of a)) h
+      (λ r e. line_inside P s.game (in_game s h) i text parse (codes_of a) (end_of a) r on e)
   by_inside s i event.Char a h on files =
       answer_inside s [] (character_answered s.game i (first_code (codes_of a))) h
       (λ r e. character_inside P s.game (in_game s h) i (first_code (codes_of a)) r on e)

@@ -27,7 +27,8 @@ use Rattle.zk_step.proofs.Later.{Later, later_then, later_if, status_units_later
 use Rattle.zk_step.proofs.Sweep.{carried_out_later, character_answered_later, line_answered_later}
 use Rattle.zk_step.proofs.Sweep.{result_answered_later, resumed_later}
 use Rattle.zk_vm.specs.declared.waiting.Waiting.{Waiting}
-use Rattle.zk_vm.specs.Answers.{Answer as Answered, answered, answered_by, codes_of, file_of, first_code, is_kept}
+use Rattle.zk_vm.specs.Answers.{Answer as Answered, answered, answered_by, codes_of, end_of, file_of, first_code}
+use Rattle.zk_vm.specs.Answers.{is_kept}
 use Rattle.zk_vm.specs.Answers.{limit_of, none_restored, restored_from, restored_to, truth_word}
 use Rattle.zk_vm.specs.Step.{State, Step, back_to, fetched, is_read, kept_answer, led_to, settled, step, step_by}
 use Rattle.zk_vm.specs.Step.{view_before}
@@ -98,7 +99,7 @@ file_later s i (Some file) = restored_later s i (restored file s.game.memory s.g
 
 answered_later : (s : State) (i : Instr) (x : Event) (a : Answered) → IsLater (answered_by s i x a)
 answered_later s i (event.Line text parse) a =
-    by_later _ _ (line_answered_later s.game i text parse (codes_of a)) (λ y. tt)
+    by_later _ _ (line_answered_later s.game i text parse (codes_of a) (end_of a)) (λ y. tt)
 answered_later s i event.Char a = by_later _ _ (character_answered_later s.game i (first_code (codes_of a))) (λ y. tt)
 answered_later s i event.Save a =
     by_later _ _ (result_answered_later s.game i (truth_word (is_kept a)) (is_kept a)) (λ y. tt)

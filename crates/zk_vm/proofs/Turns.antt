@@ -11,17 +11,17 @@ use Rattle.zk_vm.specs.Sessions.{Session, given, given_to}
 
 -- a character is a line's first code
 char_to : (w : Waiting) (s : Session) (codes : List ℕ) → w.wait ≡ event.Char
-    → given_to (Some w) s (Typed (first_code codes ∷ [])) ≡ given_to (Some w) s (Typed codes)
+    → given_to (Some w) s (Typed (first_code codes ∷ []) 13) ≡ given_to (Some w) s (Typed codes 13)
 unfolding answered
 char_to w s codes e = rw e refl
 
 char_by : (w : Option Waiting) (s : Session) (codes : List ℕ) → event_waited w ≡ Some event.Char
-    → given_to w s (Typed (first_code codes ∷ [])) ≡ given_to w s (Typed codes)
+    → given_to w s (Typed (first_code codes ∷ []) 13) ≡ given_to w s (Typed codes 13)
 char_by None s codes h = absurd cc
 char_by (Some w) s codes h = let char : w.wait ≡ event.Char = cc in char_to w s codes char
 
 pub char_given : (s : Session) (codes : List ℕ) → event_waited s.waiting ≡ Some event.Char
-    → given s (Typed (first_code codes ∷ [])) ≡ given s (Typed codes)
+    → given s (Typed (first_code codes ∷ []) 13) ≡ given s (Typed codes 13)
 unfolding given
 char_given s codes h = char_by s.waiting s codes h
 

@@ -1,6 +1,6 @@
 -- The answers that a machine waits for (Standard, section 15, `sread`, `aread`, `read_char`, `save` and `restore`).
 use Rattle.std.specs.Prelude.{ℕ, ◌+◌, Bool, true, false, ◌&&◌, List, [], ◌∷◌, ◌++◌, is_none, Option, Some, None, Result}
-use Rattle.std.specs.Prelude.{Ok, Err, if◌then◌else◌}
+use Rattle.std.specs.Prelude.{Ok, Err, if◌then◌else◌, ◌==◌}
 use Rattle.zk_mem.specs.declared.fault.Fault.{Fault}
 use Rattle.zk_mem.specs.Map.{MemoryMap}
 use Rattle.zk_text.specs.Extra.{own_characters}
@@ -26,16 +26,22 @@ use Rattle.zk_state.specs.declared.refusal.Limit.{Limit}
 use Rattle.zk_vm.specs.Step.{State, Step, goes_to, step_by}
 use Rattle.zk_vm.specs.Step.Step.{Goes, Exceeds}
 
--- an answer: the codes of a line that was typed, whether a saved game was kept, or a saved game, where there is one
+-- an answer: the codes of a line that was typed and the one that ended it, whether a saved game was kept, or a saved
+-- game, where there is one
 pub data Answer : Type 0 where
-  Typed : (codes : List ℕ) → Answer
+  Typed : (codes : List ℕ) (ended : ℕ) → Answer
   GameKept : (kept : Bool) → Answer
   File : (file : Option (List ℕ)) → Answer
 
 -- the codes of an answer; what is no line has none
 abbrev pub codes_of : Answer → List ℕ
-codes_of (Typed codes) = codes
+codes_of (Typed codes ended) = codes
 codes_of _ = []
+
+-- the code that ended an answer; 13, a new line, for what is no line
+abbrev pub end_of : Answer → ℕ
+end_of (Typed codes ended) = ended
+end_of _ = 13
 
 -- a saved game was kept
 abbrev pub is_kept : Answer → Bool
@@ -59,18 +65,24 @@ abbrev pub letters_or_none : Result (List ℕ) Fault → List ℕ
 letters_or_none (Ok letters) = letters
 letters_or_none (Err f) = []
 
--- a line as the transcript shows it: what its text buffer takes of it, as it was typed, and a new line
-abbrev pub line_shown : MemoryMap → ℕ → List ℕ → List ℕ
-line_shown m text codes = shown_all (own_characters m) (code_units (letters_or_none (kept_of m text codes))) ++ 10 ∷ []
+-- the new line of a line that a new line ended, and nothing of another
+abbrev pub end_shown : ℕ → List ℕ
+end_shown ended = if ended == 13 then 10 ∷ [] else []
+
+-- a line as the transcript shows it: what its text buffer takes of it, as it was typed, and its new line (section 15,
+-- `read`)
+abbrev pub line_shown : MemoryMap → ℕ → List ℕ → ℕ → List ℕ
+line_shown m text codes ended =
+    shown_all (own_characters m) (code_units (letters_or_none (kept_of m text codes))) ++ end_shown ended
 
 -- the transcript is on, and no table of stream 3 is open
 abbrev pub is_transcribed : GameState → Bool
 is_transcribed w = script_is_on w.memory && is_none (newest_of w.streams.tables)
 
 -- what the transcript gets of what was typed: a line, but no character (section 7.1.1.1)
-abbrev pub transcribed : GameState → Event → List ℕ → List ℕ
-transcribed w (Line text parse) codes = if is_transcribed w then line_shown w.memory text codes else []
-transcribed w _ codes = []
+abbrev pub transcribed : GameState → Event → List ℕ → ℕ → List ℕ
+transcribed w (Line text parse) codes ended = if is_transcribed w then line_shown w.memory text codes ended else []
+transcribed w _ codes ended = []
 
 -- the read is answered: no steps were made since, and the transcript is to get what was typed
 abbrev pub answer_settled : State → List ℕ → Result (GameState × ℕ) Fault → Step
@@ -108,8 +120,8 @@ restored_from s i (Some file) = restored_to s i (restored file s.game.memory s.g
 -- ---- all answers
 
 abbrev pub answered_by : State → Instr → Event → Answer → Step
-answered_by s i (Line text parse) a = answer_settled s (transcribed s.game (Line text parse) (codes_of a))
-    (line_answered s.game i text parse (codes_of a))
+answered_by s i (Line text parse) a = answer_settled s (transcribed s.game (Line text parse) (codes_of a) (end_of a))
+    (line_answered s.game i text parse (codes_of a) (end_of a))
 answered_by s i Char a = answer_settled s [] (character_answered s.game i (first_code (codes_of a)))
 answered_by s i Save a = goes_to s s.undo (result_answered s.game i (truth_word (is_kept a)) (is_kept a))
 answered_by s i Restore a = restored_from s i (file_of a)

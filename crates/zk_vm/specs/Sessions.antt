@@ -1,9 +1,9 @@
 -- A machine, as contracts see it: at a story's start, with a stop, and after an answer.
-use Rattle.std.specs.Prelude.{true, ℕ, List, [], Option, Some, None}
+use Rattle.std.specs.Prelude.{true, ℕ, List, [], Option, Some, None, is_none, if◌then◌else◌}
 use Rattle.zk_mem.specs.Header.{header_of}
 use Rattle.zk_mem.specs.Fresh.{fresh}
 use Rattle.zk_state.specs.Frames.{first_frames}
-use Rattle.zk_term.specs.Windows.{first_windows, forgotten}
+use Rattle.zk_term.specs.Windows.{Windows, first_windows, forgotten, split}
 use Rattle.zk_step.specs.declared.state.game_state.View.{View}
 use Rattle.zk_step.specs.declared.state.game_state.GameState.{GameState}
 use Rattle.zk_step.specs.Routing.{Signals}
@@ -57,10 +57,21 @@ begun story seed limits view = record {
 abbrev pub with_stop : Session → Stop → Session
 with_stop s stop = record s { waiting = None; stopped = Some stop; left = None }
 
+-- a machine with other windows
+abbrev pub with_windows : Session → Windows → Session
+with_windows s windows = record s { state = record s.state { game = record s.state.game { windows = windows } } }
+
 -- a machine whose screen has forgotten the grid that is gone
 abbrev pub with_grid_forgotten : Session → Session
-with_grid_forgotten s =
-    record s { state = record s.state { game = record s.state.game { windows = forgotten s.state.game.windows } } }
+with_grid_forgotten s = with_windows s (forgotten s.state.game.windows)
+
+-- a machine whose upper window its host has given a height, as `split_window` would (section 15), unless it is in the
+-- middle of an instruction's text
+abbrev pub with_height : Session → ℕ → Session
+with_height s lines =
+    if is_none s.left
+    then with_windows s (split s.state.game.memory.version lines s.state.game.windows)
+    else s
 
 -- a machine that was answered
 abbrev pub resumed : Session → Verdict → State → Session

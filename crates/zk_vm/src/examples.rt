@@ -8,7 +8,7 @@ ghost use Rattle.zk_vm.specs.guards.Examples.{StoriesEnd, FaultsStop, BranchesLe
 ghost use Rattle.zk_vm.specs.guards.Examples.{FramesAreLimited, RefusedStepsShowNothing, LimitsHaveRanges};
 ghost use Rattle.zk_vm.specs.guards.Examples.{BeginsAtTheFirstInstruction, StopsForGood, LinesAnswerReads};
 ghost use Rattle.zk_vm.specs.guards.Examples.{LinesAreTyped, AnswersCountAnew, ReadsAreLimited, AnswersStop};
-ghost use Rattle.zk_vm.specs.guards.Examples.{MachinesWait, RoutinesAreOpen};
+ghost use Rattle.zk_vm.specs.guards.Examples.{MachinesWait, RoutinesAreOpen, EndsAreScripted, HostsSplit};
 
 /// Small stories, from their first instruction to their stop.
 pub fn runs_by_example()
@@ -48,6 +48,8 @@ pub fn views_by_example()
     ensures no_view { NoViewPastTheMostReads }
     ensures scripts { ScriptsGetText }
     ensures due_text { DueTextComesFirst }
+    ensures ends_are_scripted { EndsAreScripted }
+    ensures hosts_split { HostsSplit }
 {}
 
 /// Parts of a text.

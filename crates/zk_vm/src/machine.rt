@@ -7,7 +7,7 @@ ghost use Rattle.zk_vm.specs.Bounds.{AreInRange};
 ghost use Rattle.zk_vm.specs.Going.{stop_by, verdict_by, pc_by, steps_by, stopped_by};
 ghost use Rattle.zk_vm.specs.Halts.{event_waited, halt_by};
 ghost use Rattle.zk_vm.specs.Laws.{IsWithin};
-ghost use Rattle.zk_vm.specs.Sessions.{begun, first_game, with_grid_forgotten, with_stop};
+ghost use Rattle.zk_vm.specs.Sessions.{begun, first_game, with_grid_forgotten, with_height, with_stop};
 ghost use Rattle.zk_vm.specs.Step.{is_read};
 
 mod answers;
@@ -184,6 +184,14 @@ impl Machine {
         ensures { self.new ≡ with_grid_forgotten self.old }
     {
         self.game.windows.forget();
+    }
+
+    /// Gives the upper window so many rows, as the story's `split_window` would (Z-Machine Standards Document 1.1,
+    /// section 15).
+    pub fn split(&mut self, lines: u16)
+        ensures { self.new ≡ with_height self.old lines }
+    {
+        self.game.windows.split(self.game.memory.version(), lines);
     }
 
     /// Ends the machine with a stop, in place of one that it may have. It waits for nothing.

@@ -254,15 +254,15 @@ pub fn answer(machine: &mut Machine, event: Event, codes: &[u8])
     requires reads { is_read event ≡ true }
     requires few { length codes.now ≤ 255 }
     requires typed { AllByRecursion (λ c. is_input_code c ≡ true) codes.now }
-    ensures left { IsLeftAs machine.new (given machine.old (Typed codes.now))
-        (given machine.old (Typed codes.now)).stopped }
+    ensures left { IsLeftAs machine.new (given machine.old (Typed codes.now 13))
+        (given machine.old (Typed codes.now 13)).stopped }
     ensures free { machine.new.waiting ≡ None }
     ensures counted { machine.new.stopped ≡ None
         → machine.new.state.reads ≡ machine.old.state.reads + 1 }
     ensures limits { machine.new.limits ≡ machine.old.limits }
 {
     match event {
-        Event::Line(_, _) => machine.answer_line(codes),
+        Event::Line(_, _) => machine.answer_line(codes, 13),
         Event::Char => machine.answer_char(first_of(codes)),
         Event::Save | Event::Restore => {}
     }

@@ -48,28 +48,30 @@ fn characters_of(memory: &Memory, codes: &[u8]) -> ArrayVec<char, 511>
 }
 
 /// A line as the transcript shows it: what the text buffer at a byte address takes of it, as it was typed, and a new
-/// line.
-fn show_line(memory: &Memory, text: u16, codes: &[u8]) -> ArrayVec<char, 511>
+/// line where that ended it.
+fn show_line(memory: &Memory, text: u16, codes: &[u8], ended: u8) -> ArrayVec<char, 511>
     requires { length codes.now ≤ 255 }
-    ensures { result.items ≡ line_shown memory.now text codes.now }
+    ensures { result.items ≡ line_shown memory.now text codes.now ended }
 {
     let kept = match kept_letters(memory, text, codes) {
         Ok(kept) => kept,
         Err(_) => &[],
     };
     let mut characters = characters_of(memory, kept);
-    characters.push('\n');
+    if ended == 13 {
+        characters.push('\n');
+    }
     characters
 }
 
 /// What the transcript gets of a line, where it is on and no table of stream 3 is open.
-pub fn transcribe(game: &GameState, text: u16, codes: &[u8]) -> ArrayVec<char, 511>
+pub fn transcribe(game: &GameState, text: u16, codes: &[u8], ended: u8) -> ArrayVec<char, 511>
     requires { length codes.now ≤ 255 }
     ensures { result.items
-        ≡ (if is_transcribed game.now then line_shown game.now.memory text codes.now else []) }
+        ≡ (if is_transcribed game.now then line_shown game.now.memory text codes.now ended else []) }
 {
     if is_script_on(&game.memory) && game.streams.newest().is_none() {
-        show_line(&game.memory, text, codes)
+        show_line(&game.memory, text, codes, ended)
     } else {
         ArrayVec::new()
     }

@@ -1,5 +1,6 @@
 -- Worked examples of reads and of the words of a text, by hand from the Standard.
-use Rattle.std.specs.Prelude.{◌≡◌, ℕ, List, [], ◌∷◌, ◌++◌, Some, None, Ok, Err, codes, replicate, ◌==◌, if◌then◌else◌}
+use Rattle.std.specs.Prelude.{◌≡◌, ℕ, true, false, List, [], ◌∷◌, ◌++◌, map, Some, None, Ok, Err, codes, replicate}
+use Rattle.std.specs.Prelude.{◌==◌, if◌then◌else◌}
 use Rattle.zk_mem.specs.declared.fault.Fault.TheVariants.{BadAddress, ReadOnly, BadDictionary, NoSuchLocal}
 use Rattle.zk_mem.specs.Map.{MemoryMap}
 use Rattle.zk_code.specs.declared.instr.Instr.{Instr}
@@ -12,6 +13,7 @@ use Rattle.zk_step.specs.declared.state.ending.Request.TheVariants as request
 use Rattle.zk_step.specs.declared.state.game_state.GameState.{GameState}
 use Rattle.zk_step.specs.Endings.{ends}
 use Rattle.zk_step.specs.Inputs.{reading, line_answered, character_answered}
+use Rattle.zk_step.specs.Terminating.{is_terminating}
 use Rattle.zk_step.specs.TextBuffers.{early_line_put, later_line_put, line_put}
 use Rattle.zk_step.specs.Words.{words_changed}
 use Rattle.zk_step.specs.guards.Examples.{memory_of, sixteen, routine_with, working, instruction}
@@ -294,37 +296,59 @@ read_into v = instruction (opcode.Reading Aread) [] (Some v) None
 abbrev pub reader : MemoryMap → ℕ → GameState
 reader memory local = working memory (routine_with (local ∷ []) [] None) []
 
--- from version 5 on the line is stored and then 13, the code that ended it: into local variable 1, or on the stack; no
--- variable is looked for before the line is stored (section 15, `aread`)
-abbrev pub LinesGiveThirteen : Type 0
-LinesGiveThirteen =
-    (line_answered (reader (memory_of 5 (3 ∷ 0 ∷ 9 ∷ 9 ∷ 9 ∷ [])) 11) (read_into 1) 0 0 (codes "Go") ≡ Ok
+-- from version 5 on the line is stored and then the code that ended it, 13 for a new line and 133 for the key F1: into
+-- local variable 1, or on the stack; no variable is looked for before the line is stored (section 15, `aread`)
+abbrev pub LinesGiveTheirEnd : Type 0
+LinesGiveTheirEnd =
+    (line_answered (reader (memory_of 5 (3 ∷ 0 ∷ 9 ∷ 9 ∷ 9 ∷ [])) 11) (read_into 1) 0 0 (codes "Go") 13 ≡ Ok
     (reader (memory_of 5 (3 ∷ 2 ∷ 103 ∷ 111 ∷ 9 ∷ [])) 13, 9))
-    × (line_answered (reader (memory_of 8 (3 ∷ 0 ∷ 9 ∷ 9 ∷ 9 ∷ [])) 11) (read_into 0) 0 0 (codes "Go") ≡ Ok
+    × (line_answered (reader (memory_of 5 (3 ∷ 0 ∷ 9 ∷ 9 ∷ 9 ∷ [])) 11) (read_into 1) 0 0 (codes "Go") 133 ≡ Ok
+    (reader (memory_of 5 (3 ∷ 2 ∷ 103 ∷ 111 ∷ 9 ∷ [])) 133, 9))
+    × (line_answered (reader (memory_of 8 (3 ∷ 0 ∷ 9 ∷ 9 ∷ 9 ∷ [])) 11) (read_into 0) 0 0 (codes "Go") 13 ≡ Ok
     (working (memory_of 8 (3 ∷ 2 ∷ 103 ∷ 111 ∷ 9 ∷ [])) (routine_with (11 ∷ []) (13 ∷ []) None) [], 9))
-    × (line_answered (reader (memory_of 5 (3 ∷ 0 ∷ 9 ∷ 9 ∷ 9 ∷ [])) 11) (read_into 2) 0 0 (codes "Go") ≡ Err
+    × (line_answered (reader (memory_of 5 (3 ∷ 0 ∷ 9 ∷ 9 ∷ 9 ∷ [])) 11) (read_into 2) 0 0 (codes "Go") 13 ≡ Err
     NoSuchLocal)
-    × (line_answered (reader (memory_of 5 (3 ∷ 0 ∷ 9 ∷ 9 ∷ 9 ∷ [])) 11) (read_into 2) 5 0 (codes "Go") ≡ Err BadAddress)
+    × (line_answered (reader (memory_of 5 (3 ∷ 0 ∷ 9 ∷ 9 ∷ 9 ∷ [])) 11) (read_into 2) 5 0 (codes "Go") 13 ≡ Err
+    BadAddress)
 
 -- the first global variable stands at 4, in the text buffer at 3: 13 is stored after the line (section 15, `aread`)
 abbrev pub LinesBeforeTheirResult : Type 0
 LinesBeforeTheirResult =
     line_answered (reader (memory_of 5 (0 ∷ 0 ∷ 0 ∷ 4 ∷ 0 ∷ 9 ∷ 9 ∷ 9 ∷ [])) 11) (read_into 16) 3 0
-    (codes "Go") ≡ Ok (reader (memory_of 5 (0 ∷ 0 ∷ 0 ∷ 4 ∷ 0 ∷ 13 ∷ 111 ∷ 9 ∷ [])) 11, 9)
+    (codes "Go") 13 ≡ Ok (reader (memory_of 5 (0 ∷ 0 ∷ 0 ∷ 4 ∷ 0 ∷ 13 ∷ 111 ∷ 9 ∷ [])) 11, 9)
 
 -- up to version 4 a line gives nothing (section 15, `sread`)
 abbrev pub EarlyLinesGiveNothing : Type 0
 EarlyLinesGiveNothing =
     (line_answered (reader (early_buffers 3 (0x32 ∷ 0x85 ∷ 0x94 ∷ 0xa5 ∷ []) (9 ∷ 9 ∷ 9 ∷ [])
-    (1 ∷ 9 ∷ 9 ∷ 9 ∷ 9 ∷ 9 ∷ [])) 11) (read_into 1) 0 4 (codes "GO")
+    (1 ∷ 9 ∷ 9 ∷ 9 ∷ 9 ∷ 9 ∷ [])) 11) (read_into 1) 0 4 (codes "GO") 13
     ≡ Ok (
       reader (early_buffers 3 (0x32 ∷ 0x85 ∷ 0x94 ∷ 0xa5 ∷ []) (103 ∷ 111 ∷ 0 ∷ [])
           (1 ∷ 1 ∷ 0 ∷ 14 ∷ 2 ∷ 1 ∷ [])) 11,
       9,
     ))
     × (line_answered (reader (early_buffers 4 (replicate 6 9) (9 ∷ 9 ∷ 9 ∷ []) (1 ∷ 9 ∷ 9 ∷ 9 ∷ 9 ∷ 9 ∷ [])) 11)
-    (read_into 1) 0 4 []
+    (read_into 1) 0 4 [] 133
     ≡ Ok (reader (early_buffers 4 (replicate 6 9) (0 ∷ 9 ∷ 9 ∷ []) (1 ∷ 0 ∷ 9 ∷ 9 ∷ 9 ∷ 9 ∷ [])) 11, 9))
+
+-- the same bytes in a story of version 5 whose header names a table of terminating characters at an address, 0 for none
+abbrev pub ending_lines_at : ℕ → List ℕ → MemoryMap
+ending_lines_at table bytes = record (memory_of 5 bytes) { file = 5 ∷ replicate 45 0 ++ 0 ∷ table ∷ [] }
+
+-- Without a table a new line alone ends a line. A table has codes up to a 0, or up to the end of memory, and those of
+-- function keys count alone; 255 stands for all of them. Version 4 has no table (sections 3.8.4 and 10.5.2.1).
+abbrev pub KeysEndLines : Type 0
+KeysEndLines =
+    (map (is_terminating (ending_lines_at 0 (129 ∷ 129 ∷ 0 ∷ []))) (13 ∷ 10 ∷ 0 ∷ 129 ∷ 255 ∷ [])
+    ≡ true ∷ false ∷ false ∷ false ∷ false ∷ [])
+    × (map (is_terminating (ending_lines_at 1 (130 ∷ 129 ∷ 133 ∷ 32 ∷ 0 ∷ 150 ∷ [])))
+    (13 ∷ 129 ∷ 133 ∷ 130 ∷ 32 ∷ 0 ∷ 150 ∷ []) ≡ true ∷ true ∷ true ∷ false ∷ false ∷ false ∷ false ∷ [])
+    × (map (is_terminating (ending_lines_at 1 (7 ∷ 133 ∷ 255 ∷ [])))
+    (128 ∷ 129 ∷ 154 ∷ 155 ∷ 251 ∷ 252 ∷ 254 ∷ 255 ∷ 27 ∷ 8 ∷ [])
+    ≡ false ∷ true ∷ true ∷ false ∷ false ∷ true ∷ true ∷ false ∷ false ∷ false ∷ [])
+    × (is_terminating (ending_lines_at 3 (7 ∷ 133 ∷ 255 ∷ [])) 133 ≡ false)
+    × (is_terminating (record (ending_lines_at 1 (7 ∷ 255 ∷ 0 ∷ [])) { file = 4 ∷ replicate 45 0 ++ 0 ∷ 1 ∷ [] }) 133
+    ≡ false)
 
 -- a character's code is stored as it is, a capital's too (section 15, `read_char`)
 abbrev pub CharactersAreGiven : Type 0

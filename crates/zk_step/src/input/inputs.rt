@@ -31,15 +31,19 @@ pub fn reading_effect(operation: Reading, values: &Values) -> Effect
     }
 }
 
-/// What a read of a line gives in a version: from version 5 on the code that ended it, a new line.
-fn result_of_line(version: u8) -> Option<u16>
-    ensures { result ≡ line_result version }
+/// What a read of a line gives in a version: from version 5 on the code that ended it.
+fn result_of_line(version: u8, ended: u8) -> Option<u16>
+    ensures { result ≡ line_result version ended }
 {
-    if version < 5 { None } else { Some(13) }
+    if version < 5 {
+        None
+    } else {
+        Some(ended as u16)
+    }
 }
 
-/// Answers a read by a line: its codes go to the text buffer, and its words to the parse buffer. `words` is what is
-/// known of the story's dictionary. It tells the address where the machine goes on.
+/// Answers a read by a line, and the code that ended it: its codes go to the text buffer, and its words to the parse
+/// buffer. `words` is what is known of the story's dictionary. It tells the address where the machine goes on.
 #[tactic(auto, unfolding(crate::specs::Inputs::line_answered))]
 pub fn answer_line(
     game: &mut GameState,
@@ -48,18 +52,19 @@ pub fn answer_line(
     text: u16,
     parse: u16,
     line: &[u8],
+    ended: u8,
 ) -> Result<u32, Refusal>
     requires words { AreWordsOf (fixed_parts game.old.memory) words.now }
     ensures value { MatchResult result (λ at. limited_pc
-        (line_answered game.old i.now text parse line.now) ≡ Ok (game.new, at))
-        (λ e. limited_pc (line_answered game.old i.now text parse line.now) ≡ Err e) }
+        (line_answered game.old i.now text parse line.now ended) ≡ Ok (game.new, at))
+        (λ e. limited_pc (line_answered game.old i.now text parse line.now ended) ≡ Err e) }
     ensures bounds { bounds_of game.new.frames ≡ bounds_of game.old.frames }
 {
     match put_line(&mut game.memory, words, text, parse, line) {
         Ok(()) => {}
         Err(fault) => return Err(Refusal::Fault(fault)),
     }
-    let result = result_of_line(game.memory.version());
+    let result = result_of_line(game.memory.version(), ended);
     go_on(game, i, result, None)
 }
 

@@ -28,7 +28,8 @@ use Rattle.zk_step.proofs.Sweep.{answers_see_no_bounds}
 use Rattle.zk_vm.specs.declared.stop.Stop.{Stop}
 use Rattle.zk_vm.specs.declared.stop.Stop.TheVariants.{Limit as LimitAt}
 use Rattle.zk_vm.specs.declared.waiting.Waiting.{Waiting}
-use Rattle.zk_vm.specs.Answers.{Answer, answered, answered_by, answer_settled, codes_of, file_of, first_code, is_kept}
+use Rattle.zk_vm.specs.Answers.{Answer, answered, answered_by, answer_settled, codes_of, end_of, file_of, first_code}
+use Rattle.zk_vm.specs.Answers.{is_kept}
 use Rattle.zk_vm.specs.Answers.{limit_of, none_restored, restored_from, restored_to, transcribed, truth_word}
 use Rattle.zk_vm.specs.Laws.{FrameLimitsOnlyCut, IsNoFrameStop, session_in, state_in}
 use Rattle.zk_vm.specs.Log.{Entry, Move, Passed, after, goes_by, heard_by, is_silent, moved, moved_by, parted}
@@ -170,10 +171,10 @@ answered_by_same : (f m : ℕ) (s : State) (i : Instr) (x : Event) (a : Answer) 
     → ((l : Limit) → answered_by s i x a ≡ Exceeds l → IsNoFrameStop (LimitAt 0 l))
     → answered_by (state_in f m s) i x a ≡ step_in f m (answered_by s i x a)
 answered_by_same f m s i (Line text parse) a few short own =
-    ap (answer_settled (state_in f m s) (transcribed s.game (Line text parse) (codes_of a)))
-    (answers_see_no_bounds.line f m s.game i text parse (codes_of a))
-    ∙ settled_same f m s (transcribed s.game (Line text parse) (codes_of a))
-    (line_answered s.game i text parse (codes_of a))
+    ap (answer_settled (state_in f m s) (transcribed s.game (Line text parse) (codes_of a) (end_of a)))
+    (answers_see_no_bounds.line f m s.game i text parse (codes_of a) (end_of a))
+    ∙ settled_same f m s (transcribed s.game (Line text parse) (codes_of a) (end_of a))
+    (line_answered s.game i text parse (codes_of a) (end_of a))
 answered_by_same f m s i Char a few short own =
     ap (answer_settled (state_in f m s) []) (answers_see_no_bounds.character f m s.game i
     (first_code (codes_of a))) ∙ settled_same f m s [] (character_answered s.game i (first_code (codes_of a)))

@@ -17,11 +17,12 @@ use Rattle.zk_vm.specs.Log.{Entry, Move, addresses, after, answers_in, moved, pa
 use Rattle.zk_vm.specs.Log.{shown, told, signals}
 use Rattle.zk_vm.specs.Log.Entry.{Asked, At, Offered, Read, Shown, Stopped}
 use Rattle.zk_vm.specs.Log.Move.{Gets, Goes, Part}
-use Rattle.zk_vm.specs.Sessions.{Session, begun, with_stop}
+use Rattle.zk_vm.specs.Sessions.{Session, begun, with_height, with_stop}
 use Rattle.zk_vm.specs.Plays.{codes_read}
 use Rattle.zk_step.specs.Routing.{on_screen, on_script}
 use Rattle.zk_term.specs.Signals.Signal.{Text, Script, Erase}
 use Rattle.zk_term.specs.Styles.{roman}
+use Rattle.zk_term.specs.Windows.{row_text}
 
 -- a story of version 5 with its static base and its first instruction at 64, where this code stands
 abbrev pub story_of : List ℕ → List ℕ
@@ -126,7 +127,7 @@ StaysAt s m = moved s m ≡ record { entries = []; to = s }
 abbrev pub StopsForGood : Type 0
 StopsForGood =
     StaysAt (with_stop (starts prints_and_quits (limits_of 1 0 10)) (Fault 67 BadOpcode)) Goes
-    × StaysAt (with_stop (starts prints_and_quits (limits_of 1 0 10)) (Fault 67 BadOpcode)) (Gets (Typed []))
+    × StaysAt (with_stop (starts prints_and_quits (limits_of 1 0 10)) (Fault 67 BadOpcode)) (Gets (Typed [] 13))
     × ((after (replicate 2 Goes) (starts prints_and_quits (limits_of 1 0 10))).stopped ≡ Some Quit)
 
 -- from 1 frame on, up to 64 undo states, and from 1 to 1,000,000,000 instructions
@@ -143,7 +144,7 @@ echoes = story_of (0xf6 ∷ 0x7f ∷ 1 ∷ 0 ∷ 0xe5 ∷ 0xbf ∷ 0 ∷ 0x8c �
 
 -- a line is typed, and three steps lead on from there
 abbrev pub types : List ℕ → List Move
-types line = Gets (Typed line) ∷ Goes ∷ Goes ∷ Goes ∷ []
+types line = Gets (Typed line 13) ∷ Goes ∷ Goes ∷ Goes ∷ []
 
 -- such a line is read, by the extra characters of the Standard, a character is shown for it, and the next read waits
 abbrev pub echo : List ℕ → ℕ → List Entry
@@ -199,11 +200,11 @@ MachinesWait =
     (event_waited (after (Goes ∷ []) (starts echoes (limits_of 1 1 10))).waiting ≡ Some event.Char)
     × (event_waited (after (Goes ∷ []) (starts (story_of (0xe4 ∷ 0x7f ∷ 64 ∷ 0 ∷ [])) (limits_of 1 1 10))).waiting
     ≡ Some (event.Line 64 0))
-    × ((after (Goes ∷ Gets (Typed (codes "a")) ∷ []) (starts echoes (limits_of 1 1 10))).state.pc ≡ 68)
-    × ((after (Goes ∷ Gets (Typed (codes "a")) ∷ []) (starts echoes (limits_of 1 1 10))).state.reads ≡ 1)
-    × ((after (Goes ∷ Gets (Typed (codes "a")) ∷ []) (starts echoes (limits_of 1 1 10))).waiting ≡ None)
+    × ((after (Goes ∷ Gets (Typed (codes "a") 13) ∷ []) (starts echoes (limits_of 1 1 10))).state.pc ≡ 68)
+    × ((after (Goes ∷ Gets (Typed (codes "a") 13) ∷ []) (starts echoes (limits_of 1 1 10))).state.reads ≡ 1)
+    × ((after (Goes ∷ Gets (Typed (codes "a") 13) ∷ []) (starts echoes (limits_of 1 1 10))).waiting ≡ None)
     × StaysAt (after (Goes ∷ []) (starts echoes (limits_of 1 1 10))) Goes
-    × StaysAt (starts echoes (limits_of 1 1 10)) (Gets (Typed (codes "a")))
+    × StaysAt (starts echoes (limits_of 1 1 10)) (Gets (Typed (codes "a") 13))
 
 -- ---- the upper window and the transcript
 
@@ -243,6 +244,31 @@ on_both c = letter c ∷ scripts c ∷ []
 abbrev pub ScriptsGetText : Type 0
 ScriptsGetText = log_of 6 (starts scripts_once (limits_of 1 1 10)) ≡ At 64 ∷ At 67 ∷ on_both 104 ++ on_both 105
     ++ At 70 ∷ At 74 ∷ shows (codes "hi") ++ At 77 ∷ Stopped Quit ∷ []
+
+-- at 64 `output_stream` 2, at 67 `aread` to the stack, whose text buffer at 40 has room for no letter, at 71 `quit`
+abbrev pub reads_into_script : List ℕ
+reads_into_script = story_of (0xf3 ∷ 0x7f ∷ 2 ∷ 0xe4 ∷ 0x7f ∷ 40 ∷ 0 ∷ 0xba ∷ [])
+
+-- a line that a new line ended goes into the transcript with it, and one that F1 ended without (section 15, `read`)
+abbrev pub EndsAreScripted : Type 0
+EndsAreScripted =
+    (passed (Goes ∷ Goes ∷ Gets (Typed (codes "go") 13) ∷ Goes ∷ Goes ∷ [])
+    (starts reads_into_script (limits_of 1 1 10)) ≡ At 64 ∷ At 67 ∷ Read None (codes "go") ∷ scripts 10 ∷ At 71
+    ∷ Stopped Quit ∷ [])
+    × (passed (Goes ∷ Goes ∷ Gets (Typed (codes "go") 133) ∷ Goes ∷ Goes ∷ [])
+    (starts reads_into_script (limits_of 1 1 10)) ≡ At 64 ∷ At 67 ∷ Read None (codes "go") ∷ At 71
+    ∷ Stopped Quit ∷ [])
+
+-- A host gives the upper window rows, 255 at most. Those that were there stay as they are, but for version 3, and in the
+-- middle of a text nothing changes (sections 8.6.1.1 and 15, `split_window`).
+abbrev pub HostsSplit : Type 0
+HostsSplit =
+    ((with_height (starts echoes (limits_of 1 1 10)) 2).state.game.windows.height ≡ 2)
+    × ((with_height (starts echoes (limits_of 1 1 10)) 300).state.game.windows.height ≡ 255)
+    × (row_text (with_height (after (replicate 4 Goes) (starts shows_a_row (limits_of 1 1 10))) 3).state.game.windows 1
+    ≡ codes "hi")
+    × (with_height (record (starts echoes (limits_of 1 1 10)) { left = Some [] }) 2
+    ≡ record (starts echoes (limits_of 1 1 10)) { left = Some [] })
 
 -- a machine whose transcript is still to get a line
 abbrev pub with_due : List ℕ → Session → Session
@@ -287,7 +313,7 @@ PartsMakeNoStep =
     × ((after (Part 1 ∷ Goes ∷ []) at_print).state.pc ≡ 70)
     × ((after (Part 1 ∷ Goes ∷ []) at_print).state.steps ≡ 2)
     × ((after (Part 1 ∷ Goes ∷ []) at_print).left ≡ None)
-    × (parts_of (Goes ∷ Part 3 ∷ Gets (Typed []) ∷ Part 0 ∷ []) ≡ 2)
+    × (parts_of (Goes ∷ Part 3 ∷ Gets (Typed [] 13) ∷ Part 0 ∷ []) ≡ 2)
 
 -- a part of the row before a read is shown, and then the rest
 abbrev pub ReadsHaveParts : Type 0
@@ -323,7 +349,7 @@ VariablesLeave =
     × (leaves (with_due (codes "go") (starts jumps_by_variable (limits_of 1 0 10))) Goes ≡ false)
     × (leaves (with_stop (starts jumps_by_variable (limits_of 1 0 10)) Quit) Goes ≡ false)
     × (leaves (starts prints_and_quits (limits_of 1 0 10)) Goes ≡ false)
-    × (leaves (after (Goes ∷ []) (starts echoes (limits_of 1 1 10))) (Gets (Typed (codes "a"))) ≡ false)
+    × (leaves (after (Goes ∷ []) (starts echoes (limits_of 1 1 10))) (Gets (Typed (codes "a") 13)) ≡ false)
 
 -- no move leaves that prints a text or ends a story
 abbrev pub OthersStay : Type 0

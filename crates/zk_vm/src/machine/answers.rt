@@ -1,9 +1,7 @@
 // The answers to what a machine waits for, and the saved game that it has.
 
-ghost use Rattle.std.specs.Prelude.{◌≡◌, ◌≤◌, ◌+◌, ◌*◌, ◌⊎◌, true, false, [], ◌∷◌, length, option_copied, Some, None};
+ghost use Rattle.std.specs.Prelude.{◌≡◌, ◌≤◌, ◌+◌, ◌*◌, true, false, [], ◌∷◌, length, option_copied, Some, None};
 ghost use Rattle.std.specs.Prelude.{Ok, Err, IfOk, MatchResult};
-ghost use Rattle.std.specs.List.{AllByRecursion};
-ghost use Rattle.zk_text.specs.Extra.{is_input_code};
 ghost use Rattle.zk_state.specs.Frames.{bounds_of};
 ghost use Rattle.zk_vm.specs.Answers.{limit_of, truth_word, undone};
 ghost use Rattle.zk_vm.specs.Answers.Answer.{Typed, GameKept, File};
@@ -28,15 +26,14 @@ use zk_step::state::game_state::GameState;
 use zk_step::state::resuming::resume;
 
 impl Machine {
-    /// Answers a read by the codes of a line, at most 255: they go to its text buffer and their words to its
-    /// parse buffer (Z-Machine Standards Document 1.1, section 15, `read`). A fault or a limit comes from the
-    /// next `run`. The machine waits for a line.
-    pub fn answer_line(&mut self, codes: &[u8])
+    /// Answers a read by the codes of a line, at most 255, and the code that ended it, 13 for a new line: they go to
+    /// its text buffer and their words to its parse buffer (Z-Machine Standards Document 1.1, section 15, `read`). A
+    /// fault or a limit comes from the next `run`. The machine waits for a line.
+    pub fn answer_line(&mut self, codes: &[u8], ended: u8)
         requires waits { IsLine (event_waited self.old.waiting) }
         requires few { length codes.now ≤ 255 }
-        requires typed { AllByRecursion (λ c. is_input_code c ≡ true) codes.now }
-        ensures left { IsLeftAs self.new (given self.old (Typed codes.now))
-            (given self.old (Typed codes.now)).stopped }
+        ensures left { IsLeftAs self.new (given self.old (Typed codes.now ended))
+            (given self.old (Typed codes.now ended)).stopped }
         ensures free { self.new.waiting ≡ None }
         ensures counted { self.new.stopped ≡ None
             → self.new.state.reads ≡ self.old.state.reads + 1 }
@@ -47,10 +44,10 @@ impl Machine {
             return;
         };
         if let Event::Line(text, parse) = waiting.wait {
-            self.due = transcribe(&self.game, text, codes);
+            self.due = transcribe(&self.game, text, codes, ended);
             let words = self.cache.words();
             let i = &waiting.instruction;
-            let answered = answer_line(&mut self.game, &words, i, text, parse, codes);
+            let answered = answer_line(&mut self.game, &words, i, text, parse, codes, ended);
             count_read(&mut self.reads, &mut self.steps);
             follow(&mut self.pc, &mut self.stopped, answered);
             self.is_within();
@@ -61,9 +58,8 @@ impl Machine {
     /// `read_char`). A fault or a limit comes from the next `run`. The machine waits for a character.
     pub fn answer_char(&mut self, code: u8)
         requires waits { event_waited self.old.waiting ≡ Some Event.Char }
-        requires typed { (code ≡ 13) ⊎ (is_input_code code ≡ true) }
-        ensures left { IsLeftAs self.new (given self.old (Typed (code ∷ [])))
-            (given self.old (Typed (code ∷ []))).stopped }
+        ensures left { IsLeftAs self.new (given self.old (Typed (code ∷ []) 13))
+            (given self.old (Typed (code ∷ []) 13)).stopped }
         ensures free { self.new.waiting ≡ None }
         ensures counted { self.new.stopped ≡ None
             → self.new.state.reads ≡ self.old.state.reads + 1 }

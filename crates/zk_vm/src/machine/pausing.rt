@@ -1,20 +1,18 @@
 // A machine that pauses in the middle of an instruction's text.
 
-ghost use Rattle.std.specs.Prelude.{◌≡◌, ◌≤◌, ◌<◌, ◌+◌, ◌^◌, ◌⊎◌, true, false, [], ◌∷◌, ℕ, Some, None, Ok, Err, IfErr};
-ghost use Rattle.std.specs.Prelude.{IfOk, IfSome, MatchResult, OnOk, OnErr, OnSome, length, option_copied};
-ghost use Rattle.std.specs.List.{AllByRecursion};
+ghost use Rattle.std.specs.Prelude.{◌≡◌, ◌≤◌, ◌<◌, ◌+◌, ◌^◌, true, false, [], ◌∷◌, ℕ, Some, None, Ok, Err, IfErr};
+ghost use Rattle.std.specs.Prelude.{IfOk, IfSome, MatchResult, OnOk, OnErr, OnSome, is_none, length, option_copied};
 ghost use Rattle.zk_code.specs.Reading.{instr_at};
 ghost use Rattle.zk_step.specs.Halves.{IsHalf, ShowsSome, rest_text, text_due};
 ghost use Rattle.zk_step.specs.Routing.{Signals, on_script};
 ghost use Rattle.zk_vm.specs.Answers.{undone};
-ghost use Rattle.zk_text.specs.Extra.{is_input_code};
 ghost use Rattle.zk_vm.specs.Answers.Answer.{Typed, GameKept, File};
 ghost use Rattle.zk_vm.specs.Halts.{CanAnswer, IsKeeping, IsLeftAs, IsLine, IsUndone, KeepsState, event_waited};
 ghost use Rattle.zk_vm.specs.Logged.{Ran};
 ghost use Rattle.zk_vm.specs.Pausing.{GoneBy, HasCome, IsCut, IsCutAt, IsMade, StandsHalf, WentOn, come_to};
 ghost use Rattle.zk_vm.specs.Pausing.{event_reached, prints_text, told_due};
 ghost use Rattle.zk_vm.specs.Plays.{AsksForLine};
-ghost use Rattle.zk_vm.specs.Sessions.{given, with_grid_forgotten, with_stop};
+ghost use Rattle.zk_vm.specs.Sessions.{given, with_grid_forgotten, with_height, with_stop};
 ghost use Rattle.zk_vm.specs.Step.{is_read};
 
 use crate::machine::step::keeps_state;
@@ -468,26 +466,24 @@ impl PausingMachine {
         self.machine.get_due(screen);
     }
 
-    /// Answers a read by the codes of a line, as `Machine::answer_line`.
-    pub fn answer_line(&mut self, codes: &[u8])
+    /// Answers a read by the codes of a line and the one that ended it, as `Machine::answer_line`.
+    pub fn answer_line(&mut self, codes: &[u8], ended: u8)
         requires waits { IsLine (event_waited self.old.waiting) }
         requires few { length codes.now ≤ 255 }
-        requires typed { AllByRecursion (λ c. is_input_code c ≡ true) codes.now }
-        ensures left { IsLeftAs self.new (given self.old (Typed codes.now))
-            (given self.old (Typed codes.now)).stopped }
+        ensures left { IsLeftAs self.new (given self.old (Typed codes.now ended))
+            (given self.old (Typed codes.now ended)).stopped }
     {
         self.half = None;
         self.machine.is_told();
-        self.machine.answer_line(codes);
+        self.machine.answer_line(codes, ended);
         self.machine.is_told();
     }
 
     /// Answers a read by the code of a character, as `Machine::answer_char`.
     pub fn answer_char(&mut self, code: u8)
         requires waits { event_waited self.old.waiting ≡ Some Event.Char }
-        requires typed { (code ≡ 13) ⊎ (is_input_code code ≡ true) }
-        ensures left { IsLeftAs self.new (given self.old (Typed (code ∷ [])))
-            (given self.old (Typed (code ∷ []))).stopped }
+        ensures left { IsLeftAs self.new (given self.old (Typed (code ∷ []) 13))
+            (given self.old (Typed (code ∷ []) 13)).stopped }
     {
         self.half = None;
         self.machine.is_told();
@@ -540,5 +536,20 @@ impl PausingMachine {
         self.machine.is_told();
         self.machine.forget_grid();
         self.machine.is_told();
+    }
+
+    /// Gives the upper window so many rows, as `Machine::split`, and says that it has; in the middle of an
+    /// instruction's text nothing changes.
+    pub fn split(&mut self, lines: u16) -> bool
+        ensures split { self.new ≡ with_height self.old lines }
+        ensures done { result ≡ is_none self.old.left }
+    {
+        let None = self.half else {
+            return false;
+        };
+        self.machine.is_told();
+        self.machine.split(lines);
+        self.machine.is_told();
+        true
     }
 }

@@ -1,5 +1,7 @@
-use Rattle.zk_vm.proofs.Answering.{grid_forgotten}
+use Rattle.zk_term.specs.Windows.{forgotten}
+use Rattle.zk_vm.proofs.Answering.{windows_changed}
 use Rattle.zk_vm.proofs.machine.Machine.forget_grid.Goals as goal
 
 pub invariant_of-self : goal.invariant_of-self
-invariant_of-self c = rw c.forget.ensures (grid_forgotten c.self.inside c.self.invariant)
+invariant_of-self c =
+    rw c.forget.ensures (windows_changed c.self.inside (forgotten c.self.inside.game.windows) c.self.invariant)
