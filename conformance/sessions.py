@@ -109,7 +109,13 @@ class Sessions(Asked):
         """`auto` takes the columns of the terminal, which a variable says."""
         wanted = "the quick brown foxe\njumps over the lazy\ndog\n  and  more\n"
         same(wanted, self.at_terminal("play --width auto fox.z3", COLUMNS="20"))
-        same(self.run("play fox.z3")[1], self.at_terminal("play --width auto fox.z3", COLUMNS="many"))
+
+    def widths_that_are_assumed_are_told(self) -> None:
+        """Where the variable says no number, `auto` is 80 and that is told before the text, but not for a file."""
+        told = "zkit: using --width 80; for the terminal's width, type: export COLUMNS\n"
+        same(told + self.run("play fox.z3")[1], self.at_terminal("play --width auto fox.z3", COLUMNS="many"))
+        same(self.run("play --width 80 fox.z3")[1], self.at_terminal("play --width 80 fox.z3", COLUMNS="many"))
+        same("", self.at_terminal("play --width auto fox.z3 > shown", COLUMNS="many"))
 
     def boxes_leave_saves_alone(self) -> None:
         """A save shows the open line, which a row ends; a transcript has no rows."""

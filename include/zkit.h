@@ -77,10 +77,11 @@ typedef struct zkit_options {
     uint32_t upper;  /* if not 0, the text includes the status line and the upper window, on lines of their own, before
                         each read. Leave it 0 if you draw them yourself, with zkit_window_of and zkit_status_line */
     uint32_t styles; /* if not 0, the library keeps the style of the text for zkit_next_run */
+    uint32_t keys;   /* if not 0, zkit_character takes keys too, such as the cursor keys: ZKIT_KEY_UP .. */
 } zkit_options;
 
 /* Sets each field within `options->size` to the value that zkit_open uses without options: seed 1, the limits above,
- * no upper window and no styles. If the size does not include all fields up to `upper`, sets none. */
+ * no upper window, no styles and no keys. If the size does not include all fields up to `upper`, sets none. */
 void zkit_defaults(zkit_options *options);
 
 /* Why zkit_open and zkit_open_snapshot open nothing. */
@@ -123,7 +124,8 @@ enum {
     ZKIT_LISTING_TOO_LONG = 6,  /* the listing has more bytes than allowed */
     ZKIT_LISTING_TOO_MANY_WORDS = 7, /* the texts of the listing have more words than ZKIT_LISTING_WORDS */
     ZKIT_NOT_A_BLORB = 8,       /* the file is no Blorb file */
-    ZKIT_NO_STORY = 9           /* the Blorb file has no story for the Z-machine, or is cut off */
+    ZKIT_NO_STORY = 9,          /* the Blorb file has no story for the Z-machine, or is cut off */
+    ZKIT_NOT_A_KEY = 10         /* the key ends no line of this story */
 };
 
 /* What zkit_status returns: why the story has stopped. */
@@ -290,9 +292,27 @@ uint32_t zkit_longest_line(const zkit *game);
  * ZKIT_DONE, ZKIT_NOT_AWAITED or ZKIT_NOT_A_LINE. */
 uint32_t zkit_line(zkit *game, const uint8_t *line, size_t length);
 
+/* Keys that are not characters, by their codes in the story's character set, ZSCII. */
+enum {
+    ZKIT_KEY_DELETE = 8,
+    ZKIT_KEY_ESCAPE = 27,
+    ZKIT_KEY_UP = 129,          /* the cursor keys */
+    ZKIT_KEY_DOWN = 130,
+    ZKIT_KEY_LEFT = 131,
+    ZKIT_KEY_RIGHT = 132,
+    ZKIT_KEY_F1 = 133,          /* F2 is 134, and so on up to F12, 144 */
+    ZKIT_KEY_PAD_0 = 145        /* the digits of a number pad, up to 9, 154 */
+};
+
+/* The same for a line that a key ended: from version 5 on, a story may list function keys that do (129 to 154). Pass
+ * what was typed up to then. The story learns the key; a new line (13) is one too.
+ *
+ * ZKIT_NOT_A_KEY: the key ends no line of this story, as it stands now: go on reading the line. */
+uint32_t zkit_line_ended(zkit *game, const uint8_t *line, size_t length, uint32_t key);
+
 /* Gives a character to a story that awaits one, by its Unicode number: 10 or 13 is a new line. A character that is not
  * in the story's character set is read as a question mark, and so is a number that is not a character; a tab is read as
- * a space.
+ * a space. If the game has the option `keys`, the numbers 8, 27 and 129 to 154 are keys.
  *
  * ZKIT_DONE or ZKIT_NOT_AWAITED. */
 uint32_t zkit_character(zkit *game, uint32_t character);
@@ -388,6 +408,16 @@ size_t zkit_row(const zkit *game, uint32_t row, uint8_t *buffer, size_t length);
 
 /* The same for a row of the tallest grid since the last answer to a read. */
 size_t zkit_tallest_row(const zkit *game, uint32_t row, uint8_t *buffer, size_t length);
+
+/* Gives the upper window this many rows, 255 at most, as the story's own `split_window` would.
+ *
+ * A story that goes on from a saved game has no upper window. Some stories, such as those of Inform's library 6/11,
+ * think that theirs is still there, and have no status line from then on. For such a story, read the height before
+ * zkit_restore; if it is less after it, give it back with this call before the next turn. In version 3 the story asks
+ * for the window again.
+ *
+ * ZKIT_DONE; ZKIT_NOT_AWAITED: the last turn ended in the middle of an instruction's text. */
+uint32_t zkit_split(zkit *game, uint32_t rows);
 
 /* What a status line shows besides its name. */
 enum {

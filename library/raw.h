@@ -38,8 +38,10 @@ size_t zk_text_of_open(uint32_t reason, uint8_t *buffer, size_t length);
 size_t zk_text_of_file(const uint8_t *file, size_t file_length, uint8_t *buffer, size_t length);
 uint32_t zk_story_in(const uint8_t *file, size_t file_length, uint8_t *buffer, size_t length, size_t *needed);
 uint32_t zk_longest_line(struct zk_handle *game);
-uint32_t zk_line(struct zk_handle *game, const uint8_t *line, size_t length);
-uint32_t zk_character(struct zk_handle *game, uint32_t character);
+/* key: the ZSCII code of the key that ended the line */
+uint32_t zk_line(struct zk_handle *game, const uint8_t *line, size_t length, uint32_t key);
+/* keys: whether 8, 27 and 129 to 154 are keys */
+uint32_t zk_character(struct zk_handle *game, uint32_t character, uint32_t keys);
 uint32_t zk_undo(struct zk_handle *game);
 uint32_t zk_image(struct zk_handle *game, uint8_t *buffer, size_t length, size_t *needed);
 uint32_t zk_saved(struct zk_handle *game, uint32_t kept);
@@ -59,6 +61,7 @@ struct zk_window {
     uint32_t selected;
 };
 void zk_window(struct zk_handle *game, struct zk_window *window);
+uint32_t zk_split(struct zk_handle *game, uint32_t rows);
 size_t zk_row(struct zk_handle *game, uint32_t row, uint8_t *buffer, size_t length);
 size_t zk_tallest_row(struct zk_handle *game, uint32_t row, uint8_t *buffer, size_t length);
 /* the figures of a status line */

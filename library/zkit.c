@@ -2,7 +2,8 @@
  * SPDX-License-Identifier: MIT OR Apache-2.0
  *
  * What is added here: a game is a block on the heap, options have their defaults, structs have their sizes, the room
- * for text is kept beside the play, and a null pointer with the length 0 becomes one that is not null. */
+ * for text and the option `keys` are kept beside the play, and a null pointer with the length 0 becomes one that is not
+ * null. */
 #include <stddef.h>
 #include <stdint.h>
 
@@ -13,6 +14,7 @@
 struct zkit {
     struct zk_handle play;
     uint32_t room;
+    uint32_t keys;
 };
 
 enum {
@@ -22,6 +24,9 @@ enum {
     GREATEST_STEPS = 1000000000,
     GREATEST_ROOM = 2147483647
 };
+
+/* the ZSCII code of a new line */
+enum { NEW_LINE = 13 };
 
 /* The functions of raw.h get no null pointer: this is what they get in its place. */
 static uint8_t nothing;
@@ -53,7 +58,7 @@ uint32_t zkit_version(void) {
 #define END(type, field) (offsetof(type, field) + sizeof((type *)NULL)->field)
 
 static const zkit_options default_options = {
-    sizeof(zkit_options), 1, ZKIT_FRAMES, ZKIT_WORDS, ZKIT_UNDO, ZKIT_STEPS, ZKIT_ROOM, 0, 0,
+    sizeof(zkit_options), 1, ZKIT_FRAMES, ZKIT_WORDS, ZKIT_UNDO, ZKIT_STEPS, ZKIT_ROOM, 0, 0, 0,
 };
 
 static int has_options(const zkit_options *options) {
@@ -71,6 +76,8 @@ static void set_options(zkit_options *options, const zkit_options *others, size_
     options->upper = others->upper;
     if (size >= END(zkit_options, styles))
         options->styles = others->styles;
+    if (size >= END(zkit_options, keys))
+        options->keys = others->keys;
 }
 
 void zkit_defaults(zkit_options *options) {
@@ -104,6 +111,7 @@ static zkit *game_with(struct zk_handle *play, uint32_t refused, const zkit_opti
             game = block.at;
             game->play = *play;
             game->room = options->room;
+            game->keys = options->keys;
             if (options->styles)
                 zk_keep_styles(&game->play);
         } else {
@@ -219,11 +227,15 @@ uint32_t zkit_longest_line(const zkit *game) {
 }
 
 uint32_t zkit_line(zkit *game, const uint8_t *line, size_t length) {
-    return zk_line(&game->play, bytes_at(line), length);
+    return zkit_line_ended(game, line, length, NEW_LINE);
+}
+
+uint32_t zkit_line_ended(zkit *game, const uint8_t *line, size_t length, uint32_t key) {
+    return zk_line(&game->play, bytes_at(line), length, key);
 }
 
 uint32_t zkit_character(zkit *game, uint32_t character) {
-    return zk_character(&game->play, character);
+    return zk_character(&game->play, character, game->keys);
 }
 
 uint32_t zkit_undo(zkit *game) {
@@ -259,6 +271,10 @@ size_t zkit_longest_snapshot(const zkit *game, size_t undo_bytes) {
 }
 
 /* ---- the screen's upper part */
+
+uint32_t zkit_split(zkit *game, uint32_t rows) {
+    return zk_split(&game->play, rows);
+}
 
 void zkit_window_of(const zkit *game, zkit_window *window) {
     struct zk_window told = {0, 0, 0, 0, 0};

@@ -13,9 +13,9 @@ import fs from "fs";
 import path from "path";
 import { fileURLToPath } from "url";
 import { sumOf } from "./page/sums.js";
-import { styled, telling, tellingStatus } from "./page_tests/stories.mjs";
+import { readingKeys, restoringWindow, styled, telling, tellingStatus } from "./page_tests/stories.mjs";
 import { linesOf, play } from "./player.js";
-import { LISTINGS, Module, Refused } from "./zkit.js";
+import { KEYS, LISTINGS, Module, Refused } from "./zkit.js";
 
 const [MODULE, PROGRAM, FOLDER, COUNT, ...NAMES] = process.argv.slice(2);
 const EXAMPLES = fileURLToPath(new URL("../examples", import.meta.url));
@@ -757,7 +757,6 @@ function generated(module) {
     console.log("        " + Object.entries(ends).sort().map(([end, count]) => `${count} ${end}`).join(", "));
 }
 
-/** The page's worker: it goes on from its own snapshots, with the limits that the page gives. */
 /** The runs of a text with styles, erasures and bleeps. */
 function styles(module) {
     const story = styled();
@@ -778,6 +777,44 @@ function styles(module) {
     plain.close();
 }
 
+/** Keys that are no characters, and lines that a key ends. */
+function keys(module) {
+    const story = readingKeys();
+    const play = (options, character, key) => {
+        const game = module.open(story, options);
+        game.turn();
+        want(!game.lineEnded("go", key), "keys: no line is awaited yet");
+        want(game.character(character), "keys: a character is taken");
+        game.turn();
+        const taken = game.lineEnded("go", key);
+        const text = game.turn() === "stopped" ? game.text() : "";
+        game.close();
+        return [taken, text];
+    };
+    const wantPlay = (came, taken, text, name) => want(came[0] === taken && came[1] === text, `keys: ${name}: ${came}`);
+    wantPlay(play({}, KEYS.ArrowUp, KEYS.ArrowDown), true, "63 130", "without the option");
+    wantPlay(play({ keys: true }, KEYS.ArrowUp, KEYS.ArrowDown), true, "129 130", "with the option");
+    wantPlay(play({ keys: true }, KEYS.Escape, 13), true, "27 13", "a new line");
+    wantPlay(play({ keys: true }, KEYS.Delete, KEYS.ArrowUp), false, "", "a key that ends no line");
+    wantPlay(play({ keys: true }, KEYS.F12, 1.5), false, "", "no key");
+}
+
+/** The upper window is given back after a restore. */
+function split(module) {
+    const game = module.open(restoringWindow());
+    game.turn();
+    const file = game.image();
+    game.saved(true);
+    want(game.turn() === "restore" && game.window().height === 1, "split: a row before the restore");
+    game.restore(file);
+    want(game.window().height === 0, "split: none after it");
+    want(game.split(1) && game.window().height === 1, "split: a row again");
+    want(game.turn() === "character" && game.window().height === 1, "split: a row at the read");
+    want(game.split(-1) && game.window().height === 255, "split: no more than 255");
+    game.close();
+}
+
+/** The page's worker: it goes on from its own snapshots, with the limits that the page gives. */
 async function worker() {
     const waiting = new Map();
     let calls = 0;
@@ -813,8 +850,8 @@ async function worker() {
 async function main() {
     const tests = [
         rows, examples, windows, listings, refusals, wordsOfReasons, refusedFiles, limits, seeds, inputs, commands,
-        sums, figures, styles, firstCharacters, lastLines, blorbs, snapshots, snapshotRefusals, thousand, large, full,
-        refusedRequests, refusedCalls, worker, generated,
+        sums, figures, styles, keys, split, firstCharacters, lastLines, blorbs, snapshots, snapshotRefusals, thousand,
+        large, full, refusedRequests, refusedCalls, worker, generated,
     ];
     for (const test of NAMES.length === 0 ? tests : NAMES.map((name) => tests.find((it) => it.name === name))) {
         const begin = performance.now();

@@ -9,7 +9,7 @@
 /**
  * How a story is played; what is left out is as `zkit_defaults` says.
  * @typedef {object} Options
- * @property {bigint} [seed]
+ * @property {bigint | number} [seed]
  * @property {number} [frames]
  * @property {number} [words]
  * @property {number} [undo]
@@ -17,6 +17,7 @@
  * @property {number} [room]
  * @property {boolean} [upper]
  * @property {boolean} [styles]  keeps the style of the text, for `nextRun` and `runs`
+ * @property {boolean} [keys]  takes keys in `character` too: KEYS
  */
 
 /** @typedef {{height: number, tallest: number, row: number, column: number, selected: boolean}} Window */
@@ -58,6 +59,7 @@
  *     needed: bigint) => number} zkit_story_in
  * @property {(game: bigint) => number} zkit_longest_line
  * @property {Giving} zkit_line
+ * @property {(game: bigint, bytes: bigint, length: bigint, key: number) => number} zkit_line_ended
  * @property {(game: bigint, character: number) => number} zkit_character
  * @property {(game: bigint) => number} zkit_undo
  * @property {Copying} zkit_image
@@ -67,6 +69,7 @@
  * @property {Copying} zkit_snapshot
  * @property {(game: bigint, undoBytes: bigint, buffer: bigint, length: bigint, needed: bigint) => number}
  *     zkit_snapshot_with_undo
+ * @property {(game: bigint, rows: number) => number} zkit_split
  * @property {(game: bigint, window: bigint) => void} zkit_window_of
  * @property {(game: bigint, row: number, buffer: bigint, length: bigint) => bigint} zkit_row
  * @property {(game: bigint, row: number, buffer: bigint, length: bigint) => bigint} zkit_tallest_row
@@ -86,6 +89,12 @@ export const LISTINGS = [
     "header", "map", "abbreviations", "dictionary", "objects", "tree", "ifid", "code", "findings",
     "strings", "properties", "globals", "alphabets", "extension",
 ];
+
+/** The codes of keys that are not characters, by their names in a browser's `KeyboardEvent.key`. */
+export const KEYS = {
+    Backspace: 8, Delete: 8, Escape: 27, ArrowUp: 129, ArrowDown: 130, ArrowLeft: 131, ArrowRight: 132,
+    F1: 133, F2: 134, F3: 135, F4: 136, F5: 137, F6: 138, F7: 139, F8: 140, F9: 141, F10: 142, F11: 143, F12: 144,
+};
 
 /** @type {Awaited[]} */
 const AWAITED = ["stopped", "line", "character", "save", "restore", "room", "time", "memory"];
@@ -135,6 +144,26 @@ const GREATEST = 0xffff_ffff;
  */
 function whole(number) {
     return Number.isInteger(number) && number >= 0 && number <= GREATEST ? number : GREATEST;
+}
+
+/**
+ * A seed as C takes it. Throws where it is no whole number.
+ * @param {bigint | number} seed
+ */
+function seedOf(seed) {
+    return BigInt.asUintN(64, BigInt(seed));
+}
+
+/**
+ * The bytes of a file. Throws where it is none, so that no call is given anything else.
+ * @param {Uint8Array | ArrayBuffer} file
+ */
+function bytesOf(file) {
+    if (file instanceof Uint8Array)
+        return file;
+    if (file instanceof ArrayBuffer)
+        return new Uint8Array(file);
+    throw new TypeError("a file is a Uint8Array or an ArrayBuffer");
 }
 
 /** @param {Uint8Array[]} parts */
@@ -187,22 +216,24 @@ export class Module {
 
     /**
      * Opens a story at its start, or throws Refused.
-     * @param {Uint8Array} story
+     * @param {Uint8Array | ArrayBuffer} story
      * @param {Options} [options]
      */
     open(story, options = {}) {
-        return this.game(story, [story.subarray(0, LONGEST_STORY)], options);
+        const bytes = bytesOf(story);
+        return this.game(bytes, [bytes.subarray(0, LONGEST_STORY)], options);
     }
 
     /**
      * Opens a game that goes on from a snapshot, or throws Refused. The limits of the snapshot may be at most those of
      * the options; of one that is not given, that of `zkit play`.
-     * @param {Uint8Array} story
-     * @param {Uint8Array} snapshot
+     * @param {Uint8Array | ArrayBuffer} story
+     * @param {Uint8Array | ArrayBuffer} snapshot
      * @param {Options} [options]
      */
     openSnapshot(story, snapshot, options = {}) {
-        return this.game(story, [story.subarray(0, LONGEST_STORY), snapshot], options);
+        const bytes = bytesOf(story);
+        return this.game(bytes, [bytes.subarray(0, LONGEST_STORY), bytesOf(snapshot)], options);
     }
 
     /**
@@ -211,10 +242,12 @@ export class Module {
      * @param {Options} options
      */
     game(story, files, options) {
+        // (what is no number throws here, before memory is taken)
+        const seed = options.seed === undefined ? undefined : seedOf(options.seed);
         const buffer = this.calls.zkit_take(BigInt(BUFFER));
         if (buffer === 0n)
             throw new Refused(OPEN_NO_MEMORY, "out of memory");
-        const { game, reason } = this.opened(files, options, buffer);
+        const { game, reason } = this.opened(files, { ...options, seed }, buffer);
         if (game !== 0n)
             return new Game(this, game, buffer);
         const words = this.wordsOfRefusal(reason, story, buffer);
@@ -254,12 +287,13 @@ export class Module {
     /**
      * The story that a file has: that in a Blorb file, and another file itself. Null where a Blorb file has none, or is
      * cut off. Throws Refused where that is longer than stories are, or there is no memory.
-     * @param {Uint8Array} file
+     * @param {Uint8Array | ArrayBuffer} file
      */
     storyIn(file) {
-        if (this.takeStory(file.subarray(0, BUFFER)).answer === NOT_A_BLORB)
-            return file;
-        const { answer, story, words } = this.takeStory(file);
+        const bytes = bytesOf(file);
+        if (this.takeStory(bytes.subarray(0, BUFFER)).answer === NOT_A_BLORB)
+            return bytes;
+        const { answer, story, words } = this.takeStory(bytes);
         if (answer === NO_ROOM || answer === NO_MEMORY)
             throw new Refused(answer === NO_ROOM ? TOO_LONG : OPEN_NO_MEMORY, words);
         return story;
@@ -314,13 +348,14 @@ export class Module {
         this.calls.zkit_defaults(at);
         const view = this.view(at, OPTIONS_SIZE);
         if (options.seed !== undefined)
-            view.setBigUint64(8, BigInt.asUintN(64, options.seed), true);
+            view.setBigUint64(8, seedOf(options.seed), true);
         [options.frames, options.words, options.undo, options.steps, options.room].forEach((number, i) => {
             if (number !== undefined)
                 view.setUint32(16 + 4 * i, whole(number), true);
         });
         view.setUint32(36, options.upper ? 1 : 0, true);
         view.setUint32(40, options.styles ? 1 : 0, true);
+        view.setUint32(44, options.keys ? 1 : 0, true);
         return at;
     }
 
@@ -466,7 +501,17 @@ export class Game {
     }
 
     /**
-     * Answers a character by its number in Unicode, and says whether it was taken.
+     * Answers a line that a key ended, 129 to 154, and says whether it was taken: the story lists keys that end lines.
+     * @param {string} line
+     * @param {number} key
+     */
+    lineEnded(line, key) {
+        return this.given(new TextEncoder().encode(line),
+            (game, bytes, length) => this.calls.zkit_line_ended(game, bytes, length, whole(key)));
+    }
+
+    /**
+     * Answers a character by its number in Unicode, or a key by its code, and says whether it was taken.
      * @param {number} code
      */
     character(code) {
@@ -549,6 +594,14 @@ export class Game {
         this.calls.zkit_window_of(this.at, this.buffer);
         const [height, tallest, row, column, selected] = this.numbers(5);
         return { height, tallest, row, column, selected: selected !== 0 };
+    }
+
+    /**
+     * Gives the upper window so many rows, as the story itself would, and says whether that was done.
+     * @param {number} rows
+     */
+    split(rows) {
+        return this.calls.zkit_split(this.at, whole(rows)) === DONE;
     }
 
     /** The rows of the upper window, without the spaces at their ends. */

@@ -291,6 +291,7 @@ static void tell_defaults(void) {
     say("room", options.room);
     say("upper", options.upper);
     say("styles", options.styles);
+    say("keys", options.keys);
 }
 
 /* Why no game is opened from a snapshot of no bytes. */
@@ -472,6 +473,114 @@ static void use_styles(void) {
     zkit_close(game);
 }
 
+/* A story that reads a character and then a line, and shows the code of the one, and of what ended the other. Its table
+ * of terminating characters has the key "cursor down". */
+static zkit *reading_keys(const zkit_options *options) {
+    /* read_char 1 -> global 16; print_num global 16; print_char ' '; aread 00300 -> global 17; print_num global 17;
+     * print_char '/'; print_num byte 1 of 00300, how many letters it has; quit */
+    const uint8_t code[] = {0xf6, 0x7f, 0x01, 0x10, 0xe6, 0xbf, 0x10, 0xe5, 0x7f, 0x20, 0xe4, 0x3f, 0x03,
+                            0x00, 0x11, 0xe6, 0xbf, 0x11, 0xe5, 0x7f, 0x2f, 0xd0, 0x1f, 0x03, 0x00, 0x01,
+                            0x12, 0xe6, 0xbf, 0x12, 0xba};
+    uint8_t story[SMALL];
+    make_story(story, code, sizeof code);
+    story[0x2e] = 0x02;
+    story[0x200] = ZKIT_KEY_DOWN;
+    story[0x300] = 20;
+    return opened(story, sizeof story, options);
+}
+
+/* Types a character, and a line that a key ends. */
+static void type_keys(const zkit_options *options, uint32_t character, uint32_t key) {
+    zkit *game = reading_keys(options);
+    say("a line is not awaited yet", zkit_line_ended(game, NULL, 0, key));
+    zkit_turn(game);
+    say("character", zkit_character(game, character));
+    zkit_turn(game);
+    say("no line", zkit_line_ended(game, (const uint8_t *)"a\n", 2, key));
+    say("line", zkit_line_ended(game, (const uint8_t *)"go", 2, key));
+    say("turn", zkit_turn(game));
+    show(game);
+    zkit_close(game);
+}
+
+/* Keys that are not characters are read as themselves where the option is not 0, and as question marks else. */
+static void use_keys(void) {
+    zkit_options options = defaults();
+    puts("keys, without the option");
+    type_keys(&options, ZKIT_KEY_UP, ZKIT_KEY_DOWN);
+    options.keys = 1;
+    puts("the same with the option");
+    type_keys(&options, ZKIT_KEY_UP, ZKIT_KEY_DOWN);
+    puts("delete, and a key that ends no line");
+    type_keys(&options, ZKIT_KEY_DELETE, ZKIT_KEY_UP);
+    puts("escape, and a new line");
+    type_keys(&options, ZKIT_KEY_ESCAPE, 13);
+    puts("the last key of all, and no key");
+    type_keys(&options, ZKIT_KEY_PAD_0 + 9, 0);
+    puts("no key, and another number that has the code of one in its last byte");
+    type_keys(&options, ZKIT_KEY_PAD_0 + 10, 256 + ZKIT_KEY_DOWN);
+    puts("a character of the story's set, and a number that has the code of a key in its last byte");
+    type_keys(&options, 0xe4, ZKIT_KEY_DOWN);
+    type_keys(&options, 256 + ZKIT_KEY_UP, ZKIT_KEY_DOWN);
+    puts("by options without the field");
+    options.size = offsetof(zkit_options, keys);
+    type_keys(&options, ZKIT_KEY_UP, ZKIT_KEY_DOWN);
+}
+
+static uint32_t height_of(const zkit *game) {
+    zkit_window window = {.size = sizeof window};
+    zkit_window_of(game, &window);
+    return window.height;
+}
+
+/* A story has no upper window after a restore: the host gives it back. */
+static void split_after_restore(void) {
+    /* split_window 1; save -> global 16; je global 16, 2 ?read; restore -> global 17; read: read_char 1 -> global 18;
+     * quit */
+    const uint8_t code[] = {0xea, 0x7f, 0x01, 0xbe, 0x00, 0xff, 0x10, 0x41, 0x10, 0x02, 0xc6,
+                            0xbe, 0x01, 0xff, 0x11, 0xf6, 0x7f, 0x01, 0x12, 0xba};
+    uint8_t file[SMALL];
+    size_t length = 0;
+    zkit *game = opened_code(code, sizeof code, NULL);
+    puts("an upper window after a restore");
+    zkit_turn(game);
+    say("image", zkit_image(game, file, sizeof file, &length));
+    say("saved", zkit_saved(game, 1));
+    say("turn", zkit_turn(game));
+    say("height", height_of(game));
+    say("restore", zkit_restore(game, file, length));
+    say("height", height_of(game));
+    say("split", zkit_split(game, 1));
+    say("height", height_of(game));
+    say("turn", zkit_turn(game));
+    say("height at the read", height_of(game));
+    say("more rows than there may be", zkit_split(game, 65536 + 2));
+    say("height", height_of(game));
+    say("no row", zkit_split(game, 0));
+    say("height", height_of(game));
+    zkit_close(game);
+}
+
+/* In the middle of a text nothing is split. */
+static void split_in_a_text(void) {
+    /* print_paddr 00900, a text of 2,400 letters; quit */
+    const uint8_t code[] = {0x8d, 0x02, 0x40, 0xba};
+    uint8_t story[SMALL];
+    make_story(story, code, sizeof code);
+    for (size_t i = 0; i < 800; i++) {
+        story[0x900 + 2 * i] = i == 799 ? 0x9a : 0x1a;
+        story[0x901 + 2 * i] = 0x69;
+    }
+    zkit *game = opened(story, sizeof story, NULL);
+    puts("an upper window in the middle of a text");
+    say("turn", zkit_turn_for(game, 1));
+    say("split", zkit_split(game, 1));
+    say("height", height_of(game));
+    say("turn", zkit_turn(game));
+    say("split", zkit_split(game, 1));
+    zkit_close(game);
+}
+
 /* Each option does what it says. */
 static void use_options(void) {
     use_seeds();
@@ -481,6 +590,9 @@ static void use_options(void) {
         use_states(undo);
     use_upper();
     use_styles();
+    use_keys();
+    split_after_restore();
+    split_in_a_text();
 }
 
 /* A story that runs 12,001,201 instructions, and then ends. */

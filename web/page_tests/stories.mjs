@@ -59,6 +59,25 @@ export function styled() {
         ...hi, 0xba]);
 }
 
+/**
+ * A story that reads a character and then a line, and shows the code of the one, and of what ended the other. Its table
+ * of terminating characters has the key "cursor down".
+ */
+export function readingKeys() {
+    const number = (variable) => [0xe6, 0xbf, variable];
+    const story = storyOf([0xf6, 0x7f, 0x01, 0x10, ...number(0x10), ...printed(" "), ...READ, ...number(0x10), 0xba]);
+    story.set(word(0x180), 0x2e);
+    story[0x180] = 130;
+    return story;
+}
+
+/** A story with a row in its upper window that saves, restores, and reads a character. */
+export function restoringWindow() {
+    // split_window 1; save -> global 16; je global 16, 2 ?read; restore -> global 17; read: read_char 1 -> global 18; quit
+    return storyOf([0xea, 0x7f, 0x01, 0xbe, 0x00, 0xff, 0x10, 0x41, 0x10, 0x02, 0xc6, 0xbe, 0x01, 0xff, 0x11,
+        0xf6, 0x7f, 0x01, 0x12, 0xba]);
+}
+
 /** A story that reads a line, and then saves again and again, whatever is answered. */
 export function asking() {
     return storyOf([...printed(">"), ...READ, 0xbe, 0x00, 0xff, 0x10, ...jumpBack(4)]);

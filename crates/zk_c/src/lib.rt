@@ -2,22 +2,22 @@
 // `include/zkit.h`.
 #![tactic(auto)]
 
-ghost use Rattle.std.specs.Prelude.{◌≡◌, ◌∷◌, ◌==◌, [], List, ℕ, None, Some, not, unwrap_or};
+ghost use Rattle.std.specs.Prelude.{◌≡◌, ◌∷◌, ◌==◌, [], List, ℕ, None, Some, min, not, unwrap_or};
 ghost use Rattle.zk_blorb.specs.Blorb.{story_of};
 ghost use Rattle.zk_blorb.specs.Looks.{looks_of, looks_text};
 ghost use Rattle.zk_mem.specs.Header.{header_of};
 ghost use Rattle.zk_term.specs.Windows.{row_text, tallest_row_text};
-ghost use Rattle.zk_vm.specs.Sessions.{with_grid_forgotten};
+ghost use Rattle.zk_vm.specs.Sessions.{with_grid_forgotten, with_height};
 ghost use Rattle.zk_vm.specs.Answers.Answer.{Typed, GameKept, File};
 ghost use Rattle.zk_vm.specs.Plays.{codes_read};
 ghost use Rattle.zk_host.specs.Texts.{IsPutInFront, IsTaken};
 ghost use Rattle.zk_host.specs.Calls.{IsStatus, awaited, character_read, character_refused, line_refused};
-ghost use Rattle.zk_host.specs.Calls.{longest_snapshot, restore_refused, save_refused};
+ghost use Rattle.zk_host.specs.Calls.{done_unless, longest_snapshot, restore_refused, save_refused, split_refused};
 ghost use Rattle.zk_host.specs.Drawing.{longest_line, row_bytes, row_number, window_of};
 ghost use Rattle.zk_host.specs.Files.{IsStoryPut};
 ghost use Rattle.zk_host.specs.Listings.{listing_numbered};
 ghost use Rattle.zk_host.specs.Marks.{run_of, run_told, taken_from, with_styles};
-ghost use Rattle.zk_host.specs.Numbers.{address_number, reason_number, status_number};
+ghost use Rattle.zk_host.specs.Numbers.{address_number, answer_number, reason_number, status_number};
 ghost use Rattle.zk_host.specs.Exports.{IsAnswered, IsImaged, IsListed, IsOpened, IsOpenedAgain, IsSnapshotPut, IsTurn};
 ghost use Rattle.zk_host.specs.Exports.{IsUndo, OnPlay, facts_of, limits_said, view_if};
 
@@ -95,28 +95,40 @@ pub extern "C" fn zk_turn(alloc: Global, game: &mut Zkit, steps: u32, room: u32)
     turn_number(on_play!(alloc, game, 0, play => play.turn(steps, room)))
 }
 
-/// Answers a read by a line, UTF-8 without its new line: `answer_line` of `zk_vm`. Answers 0, 1 where no line is
-/// awaited, or 2 where the bytes are no line.
+/// Answers a read by a line, UTF-8 without its new line, and the ZSCII code of the key that ended it, 13 for a new
+/// line: `answer_line` of `zk_vm`. Answers 0, 1 where no line is awaited, 2 where the bytes are no line, or 10 where
+/// the key ends no line of the story.
 #[unsafe(no_mangle)]
-pub extern "C" fn zk_line(alloc: Global, game: &mut Zkit, line: &[u8]) -> u32
+pub extern "C" fn zk_line(alloc: Global, game: &mut Zkit, line: &[u8], key: u32) -> u32
     ensures { OnPlay game.old.play game.new.play
-        (λ old new. IsAnswered (line_refused (awaited old) line.now)
+        (λ old new. IsAnswered (line_refused (awaited old) old.machine.state.game.memory line.now key)
         (with_grid_forgotten old.machine) old new
-        (Typed (codes_read old.machine line.now)) result) (result ≡ 1) }
+        (Typed (codes_read old.machine line.now) key) result) (result ≡ 1) }
 {
-    answer_number(on_play!(alloc, game, NOT_AWAITED, play => play.line(line)))
+    answer_number(on_play!(alloc, game, NOT_AWAITED, play => play.line(line, key)))
 }
 
-/// Answers a read by a character, its number in Unicode: `answer_char` of `zk_vm`. Answers 0, or 1 where none is
-/// awaited.
+/// Answers a read by a character, its number in Unicode, or, if `keys` is not 0, by a key that gives none, its ZSCII
+/// code: `answer_char` of `zk_vm`. Answers 0, or 1 where none is awaited.
 #[unsafe(no_mangle)]
-pub extern "C" fn zk_character(alloc: Global, game: &mut Zkit, character: u32) -> u32
+pub extern "C" fn zk_character(alloc: Global, game: &mut Zkit, character: u32, keys: u32) -> u32
     ensures { OnPlay game.old.play game.new.play
         (λ old new. IsAnswered (character_refused (awaited old))
         (with_grid_forgotten old.machine) old new
-        (Typed (character_read old.machine character ∷ [])) result) (result ≡ 1) }
+        (Typed (character_read old.machine (not (keys == 0)) character ∷ []) 13) result) (result ≡ 1) }
 {
-    answer_number(on_play!(alloc, game, NOT_AWAITED, play => play.character(character)))
+    answer_number(on_play!(alloc, game, NOT_AWAITED, play => play.character(character, keys != 0)))
+}
+
+/// Gives the upper window so many rows, 255 at most, as the story's `split_window` would: `split` of `zk_vm`. Answers
+/// 0, or 1 in the middle of an instruction's text, where nothing changes.
+#[unsafe(no_mangle)]
+pub extern "C" fn zk_split(alloc: Global, game: &mut Zkit, rows: u32) -> u32
+    ensures { OnPlay game.old.play game.new.play
+        (λ old new. (result ≡ answer_number (done_unless (split_refused old)))
+        × (new ≡ record old { machine = with_height old.machine (min rows 255) })) (result ≡ 1) }
+{
+    answer_number(on_play!(alloc, game, NOT_AWAITED, play => play.split(rows)))
 }
 
 /// Takes text of the screen, UTF-8, from the front into a buffer. Answers how many bytes: 0 where none are left. What

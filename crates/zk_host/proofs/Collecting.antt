@@ -209,12 +209,13 @@ left_over x a b = elim (cases_lt (a + b) x) [
 
 -- nothing is collected once text is lost
 pub collects_lost : (a b : Collected) (l : List Signal) → is_lost b ≡ true → b.screen.bytes ≡ a.screen.bytes
-    → b.script.bytes ≡ a.script.bytes → b.room ≡ a.room → b.styled ≡ a.styled
+    → b.script.bytes ≡ a.script.bytes → b.room ≡ a.room → b.styled ≡ a.styled → b.told ≡ a.told
     → (b.too_much ≡ true → (a.too_much ≡ true) ⊎ (a.room + most_past_room ≤ waiting_of b)) → Collects a b l
-collects_lost a b l lost screen script room styled why = record {
+collects_lost a b l lost screen script room styled told why = record {
   texts = collects_none a b (screen_text l) (script_text l) lost screen script room why;
   marks = λ works. let never = sym works ∙ lost in absurd cc;
   kept = styled;
+  told = told;
 }
 
 -- a character of the transcript marks nothing
@@ -242,11 +243,13 @@ collects_mark a b x mark text script marks is = by_kept a.styled refl is
       });
       marks = λ works. rw kept (sym (marks (marks_in a)));
       kept = refl;
+      told = refl;
     })
     by_kept false kept same = rw same (record {
       texts = rw (text, script) (texts_nothing a);
       marks = λ works. rw kept refl;
       kept = refl;
+      told = refl;
     })
 
 -- a character for the screen, with its marks
@@ -263,4 +266,5 @@ collects_marked a m b c style screen works few took same marks short =
           works refl refl refl few took;
       marks = λ kept. marks (marks_kept a.too_much screen.failed a.script.failed m.marks.failed kept);
       kept = refl;
+      told = refl;
     })

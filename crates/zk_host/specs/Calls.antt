@@ -1,6 +1,6 @@
 -- What the calls of a play answer, and how they leave it.
 use Rattle.std.specs.Prelude.{◌≡◌, ◌≤◌, ◌⊎◌, ◌+◌, ◌-◌, ◌^◌, min, ℕ, Bool, true, false, List, length, Option, Some, None}
-use Rattle.std.specs.Prelude.{Result, Ok, Err, if◌then◌else◌}
+use Rattle.std.specs.Prelude.{Result, Ok, Err, is_none, if◌then◌else◌}
 use Rattle.std.specs.Global.{Vec, Box}
 use Rattle.zk_text.specs.Extra.{own_characters}
 use Rattle.zk_step.specs.declared.state.game_state.View.{View}
@@ -36,6 +36,7 @@ use Rattle.zk_snapshot.specs.Opening.{IsOpened, IsRefused}
 use Rattle.zk_snapshot.specs.Snapshots.{HasSnapshot, longest_of, snapshot_of}
 use Rattle.zk_host.specs.declared.listing.Listing.{Listing}
 use Rattle.zk_host.specs.Listings.{IsListing, IsUnlisted}
+use Rattle.zk_step.specs.Terminating.{is_terminating}
 use Rattle.zk_host.specs.Typing.{is_line, character_code}
 use Rattle.zk_host.specs.Within.{AreWithin}
 
@@ -139,13 +140,14 @@ abbrev pub IsGivenUnless : Option Refusal → Session → Play → Play → Resu
 IsGivenUnless None before old new result a = (result ≡ Ok tt) × IsGiven before old new a
 IsGivenUnless (Some r) before old new result a = (result ≡ Err r) × (new ≡ old)
 
--- why a line is refused, by what is waited for
-abbrev pub line_refused : Option Event → List ℕ → Option Refusal
-line_refused (Some (Line text parse)) line = if is_line line then None else Some refused.NotALine
-line_refused (Some Char) line = Some refused.NotAwaited
-line_refused (Some Save) line = Some refused.NotAwaited
-line_refused (Some Restore) line = Some refused.NotAwaited
-line_refused None line = Some refused.NotAwaited
+-- why a line is refused that a key has ended, by what is waited for
+abbrev pub line_refused : Option Event → MemoryMap → List ℕ → ℕ → Option Refusal
+line_refused (Some (Line text parse)) m line key =
+    if is_line line then (if is_terminating m key then None else Some refused.NotAKey) else Some refused.NotALine
+line_refused (Some Char) m line key = Some refused.NotAwaited
+line_refused (Some Save) m line key = Some refused.NotAwaited
+line_refused (Some Restore) m line key = Some refused.NotAwaited
+line_refused None m line key = Some refused.NotAwaited
 
 -- why the answers to other events are
 abbrev pub character_refused : Option Event → Option Refusal
@@ -169,9 +171,9 @@ restore_refused (Some Char) = Some refused.NotAwaited
 restore_refused (Some Save) = Some refused.NotAwaited
 restore_refused None = Some refused.NotAwaited
 
--- the code of a character, by the extra characters in force
-abbrev pub character_read : Session → ℕ → ℕ
-character_read s c = character_code (own_characters s.state.game.memory) c
+-- the code of a character, by the extra characters in force and whether there are keys that give none
+abbrev pub character_read : Session → Bool → ℕ → ℕ
+character_read s keys c = character_code (own_characters s.state.game.memory) keys c
 
 -- the file of a saved game, by why it is refused, if it is; or there was no memory for it
 abbrev pub IsImage : Option Refusal → Play → Result (Vec ℕ) Refusal → Type 0
@@ -200,6 +202,17 @@ IsGoneBack None old new result =
     (done : Bool) × (result ≡ done_or_none done) × IsUndone old.machine new.machine done
     (undone old.machine.state) × (new ≡ record old { machine = new.machine })
 IsGoneBack (Some r) old new result = (result ≡ Err r) × (new ≡ old)
+
+-- ---- the upper window
+
+-- the upper window can't be given a height in the middle of an instruction's text
+abbrev pub split_refused : Play → Option Refusal
+split_refused p = if is_none p.machine.left then None else Some refused.NotAwaited
+
+-- how it is told whether something was refused
+abbrev pub done_unless : Option Refusal → Result (Unit {0}) Refusal
+done_unless None = Ok tt
+done_unless (Some r) = Err r
 
 -- ---- the status line
 

@@ -58,6 +58,7 @@ pub record Collects (a b : Collected) (l : List Signal) : Type 0 where
   pub texts : CollectsTexts a b (screen_text l) (script_text l)
   pub marks : is_lost b ≡ false → marks_in b ≡ marked_if a.styled l (marks_in a)
   pub kept : b.styled ≡ a.styled
+  pub told : b.told ≡ a.told
 
 -- no text
 abbrev pub no_text : Unread
@@ -119,7 +120,7 @@ marked_both false s t m = refl
 
 pub collects_nothing : (a : Collected) → Collects a a []
 unfolding marked
-collects_nothing a = record { texts = texts_nothing a; marks = λ works. none a.styled; kept = refl }
+collects_nothing a = record { texts = texts_nothing a; marks = λ works. none a.styled; kept = refl; told = refl }
   where
     none : (kept : Bool) → marks_in a ≡ marked_if kept [] (marks_in a)
     none true = refl
@@ -136,4 +137,5 @@ collects_twice a b c s t h k = record {
       ∙ ap (λ (kept : Bool). marked_if kept t (marked_if a.styled s (marks_in a))) h.kept
       ∙ marked_both a.styled s t (marks_in a);
   kept = k.kept ∙ h.kept;
+  told = k.told ∙ h.told;
 }

@@ -87,21 +87,23 @@ unfoldable pub so_marked : ℕ → List ℕ → ℕ
 so_marked mark [] = 0
 so_marked mark (x ∷ xs) = if x == mark then so_marked mark xs + 1 else 0
 
--- The first bytes that wait, of one style, and what came before them, unless that was told; where none wait, what came
--- before the next.
-abbrev pub run_by : List ℕ → ℕ → Bool → Run
-run_by [] before told = record { length = 0; style = 0; before = before }
-run_by (x ∷ xs) before told = record {
+-- all bytes that wait are one run, in no style
+abbrev pub plain_run : Collected → ℕ → Run
+plain_run c before = record { length = length c.screen.bytes; style = 0; before = before }
+
+-- The first bytes that wait, of one style, and what came before them, unless that was told. Where no byte has a mark,
+-- since none waits or the marks are lost, they are one run, after what came before the next.
+abbrev pub run_by : List ℕ → Collected → Run
+run_by [] c = plain_run c c.before
+run_by (x ∷ xs) c = record {
   length = so_marked (style_of x) xs + 1;
   style = style_of x;
-  before = if told then 0 else before_of x;
+  before = if c.told then 0 else before_of x;
 }
 
--- where marks are not kept all bytes are one run, in no style
+-- where marks are not kept all bytes are one run
 abbrev pub run_of : Collected → Run
-run_of c =
-    if c.styled then run_by c.marks.bytes c.before c.told
-    else record { length = length c.screen.bytes; style = 0; before = 0 }
+run_of c = if c.styled then run_by c.marks.bytes c else plain_run c 0
 
 -- what came before the first byte is told, or, where none waits, what came before the next
 abbrev pub told_by : List ℕ → Collected → Collected

@@ -1,10 +1,11 @@
 // Text that a play has shown and nobody has taken yet.
 
 ghost use Rattle.std.specs.Prelude.{◌≡◌, ◌+◌, [], ◌∷◌, bit_or, false, if◌then◌else◌, nat_le, true, Some, slice_get};
-ghost use Rattle.zk_host.specs.Marks.{marked_if, marks_in, run_by, run_of, run_told, taken_from, with_styles};
+ghost use Rattle.zk_host.specs.Marks.{marked_if, marks_in, plain_run, run_by, run_of, run_told, taken_from};
 ghost use Rattle.zk_term.specs.Signals.Signal.{Text as TextSignal};
 ghost use Rattle.zk_host.specs.Collecting.{has_no_room, is_lost, most_past_room, nothing_collected, waiting_of};
 ghost use Rattle.zk_host.specs.Collecting.{wants_pause};
+ghost use Rattle.zk_host.specs.Marks.{with_styles};
 
 use crate::marks::{ERASED, Run, bleep_mark, style_mark};
 use crate::text::Text;
@@ -104,35 +105,39 @@ impl Collected {
         ensures told { self.new ≡ run_told self.old }
     {
         if !self.styled {
-            return Run {
-                length: self.screen.len(),
-                style: 0,
-                before: 0,
-            };
+            return self.plain_run(0);
         }
         match self.marks.first() {
             Some(mark) => self.run_from(mark),
             None => {
-                let before = self.before as u32;
+                let run = self.plain_run(self.before);
                 self.before = 0;
-                Run {
-                    length: 0,
-                    style: 0,
-                    before,
-                }
+                run
             }
+        }
+    }
+
+    /// All bytes that wait, in no style.
+    fn plain_run(&self, before: u8) -> Run
+        ensures { result ≡ plain_run self.now before }
+    {
+        Run {
+            length: self.screen.len(),
+            style: 0,
+            before: before as u32,
         }
     }
 
     /// The run that begins with a mark.
     fn run_from(&mut self, mark: u8) -> Run
         requires { slice_get self.old.marks.bytes 0 ≡ Some mark }
-        ensures value { result ≡ run_by self.old.marks.bytes self.old.before self.old.told }
+        ensures value { result ≡ run_by self.old.marks.bytes self.old }
         ensures told { self.new ≡ record self.old { told = true } }
     {
         let style = mark % 16;
         let before = if self.told { 0 } else { mark / 16 * 16 };
         self.told = true;
+        // (the length of a list fits in a word, and so the run's does)
         self.marks.len();
         Run {
             length: self.marks.same_from(1, style) + 1,

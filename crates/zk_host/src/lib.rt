@@ -8,6 +8,7 @@ pub mod examples;
 pub mod facts;
 pub mod files;
 pub mod handle;
+pub mod laws;
 pub mod listing;
 mod loose;
 pub mod marks;

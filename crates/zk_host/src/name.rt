@@ -28,7 +28,7 @@ const MOST_UNITS: usize = 1_000;
 /// None are collected of a name of more words, with those of the abbreviations that it uses.
 const MOST_WORDS: u32 = 65_536;
 
-/// CollectsTexts the first units of a text, as many as are left.
+/// Collects the first units of a text, as many as are left.
 #[derive(Drop)]
 pub struct NameSink<'a> {
     pub name: &'a mut Collected,
@@ -100,7 +100,7 @@ impl<'a> Sink for NameSink<'a> {
     ) };
 }
 
-/// CollectsTexts the first units of the text at a byte address.
+/// Collects the first units of the text at a byte address.
 fn collect_first(memory: &Memory, address: u32, name: &mut Collected)
     requires { IsOk (text_units memory.now address) }
     ensures { (units : List Unit) → text_units memory.now address ≡ Ok units →
@@ -119,7 +119,7 @@ fn collect_first(memory: &Memory, address: u32, name: &mut Collected)
     }
 }
 
-/// CollectsTexts the first units of the text at a byte address, unless it has too many words.
+/// Collects the first units of the text at a byte address, unless it has too many words.
 fn collect(memory: &Memory, address: u32, name: &mut Collected)
     requires { IsOk (text_units memory.now address) }
     ensures { (units : List Unit) → text_units memory.now address ≡ Ok units →

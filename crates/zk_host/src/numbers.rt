@@ -45,6 +45,7 @@ pub fn refused_number(refusal: Refusal) -> u32
         Refusal::NoState => 5,
         Refusal::TooLong => 6,
         Refusal::TooManyWords => 7,
+        Refusal::NotAKey => 10,
     }
 }
 

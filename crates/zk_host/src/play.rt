@@ -1,6 +1,6 @@
 // A story that is played by calls.
 
-ghost use Rattle.std.specs.Prelude.{◌≡◌, ◌≤◌, ◌⊎◌, IfErr, IfOk, OnOk, length};
+ghost use Rattle.std.specs.Prelude.{◌≡◌, ◌≤◌, ◌⊎◌, IfErr, IfOk, OnOk, length, min};
 ghost use Rattle.zk_vm.specs.Answers.Answer.{Typed, GameKept, File};
 ghost use Rattle.zk_vm.specs.Bounds.{AreInRange};
 ghost use Rattle.zk_vm.specs.Plays.{codes_read, image_of};
@@ -8,7 +8,7 @@ ghost use Rattle.zk_mem.specs.Fresh.{fresh};
 ghost use Rattle.zk_mem.specs.Header.{header_of};
 ghost use Rattle.zk_mem.specs.Story.{refusal};
 ghost use Rattle.zk_term.specs.Windows.{row_text, tallest_row_text};
-ghost use Rattle.zk_vm.specs.Sessions.{with_grid_forgotten};
+ghost use Rattle.zk_vm.specs.Sessions.{with_grid_forgotten, with_height};
 ghost use Rattle.zk_host.specs.Drawing.{longest_line, row_bytes, row_number, window_of};
 ghost use Rattle.zk_host.specs.Listings.{IsListing, IsUnlisted};
 ghost use Rattle.zk_host.specs.Marks.{run_of, run_told, taken_from, with_styles};
@@ -32,6 +32,7 @@ use zk_mem::memory::{Memory, Setup};
 use zk_mem::story::{OpenError, Story};
 use zk_snapshot::opening::{SnapshotError, open_snapshot};
 use zk_snapshot::snapshot::{has_snapshot, longest_snapshot, snapshot};
+use zk_step::input::terminating::is_terminating;
 use zk_step::state::ending::Event;
 use zk_step::state::game_state::View;
 use zk_vm::limits::Limits;
@@ -54,6 +55,8 @@ pub enum Refusal {
     TooLong,
     /// The texts of the listing have more words than may be looked at.
     TooManyWords,
+    /// The key ends no line of the story.
+    NotAKey,
 }
 
 /// Why no play goes on from a snapshot.
@@ -128,7 +131,7 @@ impl Play {
     ghost use Rattle.zk_host.specs.Calls.{longest_snapshot, awaited, pause_of, HasRun, IsGivenUnless, IsGoneBack};
     ghost use Rattle.zk_host.specs.Calls.{IsImage, IsListedBy, IsStatus, IsTurned, line_refused, character_refused};
     ghost use Rattle.zk_host.specs.Calls.{read_refused, save_refused, restore_refused, character_read};
-    ghost use Rattle.zk_host.specs.Calls.{with_none_listed};
+    ghost use Rattle.zk_host.specs.Calls.{done_unless, split_refused, with_none_listed};
     ghost use Rattle.zk_host.specs.Collecting.{wants_pause};
     ghost use Rattle.std.specs.Prelude.{Option, Some, None, false, option_copied, ◌∷◌, []};
 
@@ -323,11 +326,12 @@ impl Play {
         self.text.script.take(buffer)
     }
 
-    /// Answers a read by a line, its bytes without a new line.
-    pub fn line(&mut self, line: &[u8]) -> Result<(), Refusal>
-        ensures { IsGivenUnless (line_refused (awaited self.old) line.now)
+    /// Answers a read by a line, its bytes without a new line, and the ZSCII code of the key that ended it: 13 for a
+    /// new line, or one that the story has in its table of terminating characters.
+    pub fn line(&mut self, line: &[u8], key: u32) -> Result<(), Refusal>
+        ensures { IsGivenUnless (line_refused (awaited self.old) self.old.machine.state.game.memory line.now key)
             (with_grid_forgotten self.old.machine) self.old self.new result
-            (Typed (codes_read self.old.machine line.now)) }
+            (Typed (codes_read self.old.machine line.now) key) }
     {
         let Some(Event::Line(_, _)) = self.machine.machine().waiting() else {
             return Err(Refusal::NotAwaited);
@@ -335,22 +339,25 @@ impl Play {
         if !is_line(line) {
             return Err(Refusal::NotALine);
         }
+        if key > 255 || !is_terminating(self.machine.machine().memory(), key as u8) {
+            return Err(Refusal::NotAKey);
+        }
         let codes = codes_of(self.machine.machine().memory(), line);
         self.machine.forget_grid();
-        self.machine.answer_line(codes.as_slice());
+        self.machine.answer_line(codes.as_slice(), key as u8);
         Ok(())
     }
 
-    /// Answers a read by a character.
-    pub fn character(&mut self, character: u32) -> Result<(), Refusal>
+    /// Answers a read by a character, or by a key that gives none, where there are such keys.
+    pub fn character(&mut self, character: u32, keys: bool) -> Result<(), Refusal>
         ensures { IsGivenUnless (character_refused (awaited self.old))
             (with_grid_forgotten self.old.machine) self.old self.new result
-            (Typed (character_read self.old.machine character ∷ [])) }
+            (Typed (character_read self.old.machine keys character ∷ []) 13) }
     {
         let Some(Event::Char) = self.machine.machine().waiting() else {
             return Err(Refusal::NotAwaited);
         };
-        let code = code_of(self.machine.machine().memory(), character);
+        let code = code_of(self.machine.machine().memory(), keys, character);
         self.machine.forget_grid();
         self.machine.answer_char(code);
         Ok(())
@@ -436,6 +443,19 @@ impl Play {
             Some(Event::Line(text, _)) => line_room(self.machine.machine().memory(), text),
             Some(Event::Char | Event::Save | Event::Restore) => 0,
             None => 0,
+        }
+    }
+
+    /// Gives the upper window so many rows, 255 at most, as the story's `split_window` would. That is refused in the
+    /// middle of an instruction's text.
+    pub fn split(&mut self, rows: u32) -> Result<(), Refusal>
+        ensures told { result ≡ done_unless (split_refused self.old) }
+        ensures split { self.new ≡ record self.old { machine = with_height self.old.machine (min rows 255) } }
+    {
+        if self.machine.split(rows.min(255) as u16) {
+            Ok(())
+        } else {
+            Err(Refusal::NotAwaited)
         }
     }
 

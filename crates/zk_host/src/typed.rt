@@ -1,10 +1,9 @@
 // A line that was typed.
 
-ghost use Rattle.std.specs.Prelude.{◌≡◌, ◌<◌, ◌⊎◌, true, IsTrue, ◌↔◌, length};
-ghost use Rattle.std.specs.List.{AllByRecursion};
-ghost use Rattle.zk_text.specs.Extra.{is_input_code, own_characters};
+ghost use Rattle.std.specs.Prelude.{◌≡◌, ◌<◌, true, IsTrue, ◌↔◌, length};
+ghost use Rattle.zk_text.specs.Extra.{own_characters};
 ghost use Rattle.zk_term.specs.Characters.{line_codes};
-ghost use Rattle.zk_host.specs.Typing.{character_code, is_line, is_plain};
+ghost use Rattle.zk_host.specs.Typing.{character_code, is_key, is_line, is_plain};
 
 use arrayvec::ArrayVec;
 use std::io::Read;
@@ -61,8 +60,7 @@ pub fn is_line(bytes: &[u8]) -> bool
 /// The codes of a line, by the story's extra characters.
 pub fn codes_of(memory: &Memory, line: &[u8]) -> ArrayVec<u8, 255>
     requires { is_line line.now ≡ true }
-    ensures value { result.items ≡ line_codes (own_characters memory.now) line.now }
-    ensures typed { AllByRecursion (λ c. is_input_code c ≡ true) result.items }
+    ensures { result.items ≡ line_codes (own_characters memory.now) line.now }
 {
     if line.is_empty() {
         return ArrayVec::new();
@@ -74,13 +72,22 @@ pub fn codes_of(memory: &Memory, line: &[u8]) -> ArrayVec<u8, 255>
     }
 }
 
-/// The code of a character that was typed, by the story's extra characters: 13 for a new line.
-pub fn code_of(memory: &Memory, character: u32) -> u8
-    ensures value { result ≡ character_code (own_characters memory.now) character }
-    ensures typed { (result ≡ 13) ⊎ (is_input_code result ≡ true) }
+/// Whether a code is that of a key that gives no character: delete, escape or a function key (Z-Machine Standards
+/// Document 1.1, section 3.8).
+fn is_key(code: u32) -> bool
+    ensures { result ≡ is_key code }
+{
+    matches!(code, 8 | 27 | 129..=154)
+}
+
+/// The code of a character that was typed, by the story's extra characters: 13 for a new line. Where there are keys
+/// that give no character, each is its own code.
+pub fn code_of(memory: &Memory, keys: bool, character: u32) -> u8
+    ensures { result ≡ character_code (own_characters memory.now) keys character }
 {
     match character {
         0x0a | 0x0d => 13,
+        _ if keys && is_key(character) => character as u8,
         0x09 => b' ',
         _ => Extra::of(memory).from_char(character).unwrap_or(b'?'),
     }

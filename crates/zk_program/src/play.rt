@@ -22,7 +22,7 @@ use zk_system::record::{Record, RecordFile, write_record_heading};
 use zk_system::save_file::{SaveFile, SavePlace, tell_no_folder};
 use zk_system::script::ScriptFile;
 use zk_system::shown::Shown;
-use zk_system::terminal::{columns, is_typed_at, lines, seed_of_clock};
+use zk_system::terminal::{assumes_columns, columns, is_typed_at, lines, seed_of_clock};
 use zk_system::typed_bytes::TypedBytes;
 use zk_system::watched::Watched;
 use zk_term::echo::Echo;
@@ -67,11 +67,18 @@ fn seed_by(rt: &HostRuntime, seed: Amount) -> u64 {
     }
 }
 
-/// The columns of the screen's lines, where they are wrapped.
+/// The columns of the screen's lines, where they are wrapped. Those that are assumed are told, so that the shell can
+/// say them.
 fn width_by(rt: &HostRuntime, width: Option<Amount>) -> Option<u8> {
     match width? {
         Amount::Number(columns) => u8::try_from(columns).ok(),
-        Amount::Found => u8::try_from(columns(rt)?).ok(),
+        Amount::Found => {
+            let columns = columns(rt)?;
+            if assumes_columns(rt) {
+                let _ = eprintln!(rt; "zkit: using --width {columns}; for the terminal's width, type: export COLUMNS");
+            }
+            u8::try_from(columns).ok()
+        }
     }
 }
 

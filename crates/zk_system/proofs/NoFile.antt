@@ -26,7 +26,7 @@ nothing_is_kept before after (At address ∷ l) none h =
     (tt, nothing_is_kept h.0 after l (ap (λ (s : SaveFile). s.place) h.1.0 ∙ none) h.1.1)
 nothing_is_kept before after (Shown c ∷ l) none h =
     (tt, nothing_is_kept h.0 after l (ap (λ (s : SaveFile). s.place) h.1.0 ∙ none) h.1.1)
-nothing_is_kept before after (Read extra codes ∷ l) none h =
+nothing_is_kept before after (Read extra codes ended ∷ l) none h =
     (tt, nothing_is_kept h.0 after l (ap (λ (s : SaveFile). s.place) h.1.0 ∙ none) h.1.1)
 nothing_is_kept before after (Stopped stop ∷ l) none h =
     (tt, nothing_is_kept h.0 after l (ap (λ (s : SaveFile). s.place) h.1.0 ∙ none) h.1.1)

@@ -1,5 +1,6 @@
 -- What is known of a terminal, and what is answered there.
-use Rattle.std.specs.Prelude.{ℕ, ◌==◌, ◌||◌, Bool, List, codes, Option, Some, None, if◌then◌else◌, unwrap_or}
+use Rattle.std.specs.Prelude.{ℕ, ◌==◌, ◌&&◌, ◌||◌, Bool, List, codes, Option, Some, None, is_none}
+use Rattle.std.specs.Prelude.{if◌then◌else◌, unwrap_or}
 use Rattle.std.specs.List.{starts_with}
 use Rattle.std.specs.Str.{bytes_eq}
 
@@ -13,6 +14,10 @@ names_terminal name =
 -- as are usual
 abbrev pub shown_size : Bool → Option ℕ → ℕ → Option ℕ
 shown_size is_terminal said usual = if is_terminal then Some (unwrap_or said usual) else None
+
+-- a terminal's size is assumed where nothing said it
+abbrev pub is_assumed : Bool → Option ℕ → Bool
+is_assumed is_terminal said = is_terminal && is_none said
 
 -- an answer that allows what was asked
 abbrev pub is_yes : List ℕ → Bool

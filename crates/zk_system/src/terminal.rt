@@ -2,7 +2,7 @@
 
 ghost use Rattle.std.specs.Prelude.{◌≡◌, ◌≤◌, SomeIff};
 ghost use Rattle.zk_command.specs.CommandLine.{IsNumberIn, number_in};
-ghost use Rattle.zk_system.specs.Terminals.{names_terminal, shown_size};
+ghost use Rattle.zk_system.specs.Terminals.{is_assumed, names_terminal, shown_size};
 
 use std::time::{SystemTime, UNIX_EPOCH};
 use std::{env, fs};
@@ -77,11 +77,27 @@ fn size_of(is_terminal: bool, said: Option<u64>, usual: u64) -> Option<u64>
     }
 }
 
+/// Whether a size is assumed: that of a terminal, which nothing said.
+fn is_assumed(is_terminal: bool, said: Option<u64>) -> bool
+    ensures { result ≡ is_assumed is_terminal said }
+{
+    is_terminal && said.is_none()
+}
+
+/// The columns that `COLUMNS` says.
+fn columns_said(rt: &HostRuntime) -> Option<u64> {
+    number_of(rt, "COLUMNS", 20, 255)
+}
+
 /// The columns of the terminal that standard output is: those that `COLUMNS` says, else 80. None where it is no
 /// terminal.
 pub fn columns(rt: &HostRuntime) -> Option<u64> {
-    let said = number_of(rt, "COLUMNS", 20, 255);
-    size_of(is_terminal(rt, OUTPUT), said, COLUMNS)
+    size_of(is_terminal(rt, OUTPUT), columns_said(rt), COLUMNS)
+}
+
+/// Whether these columns are assumed, since `COLUMNS` does not say them.
+pub fn assumes_columns(rt: &HostRuntime) -> bool {
+    is_assumed(is_terminal(rt, OUTPUT), columns_said(rt))
 }
 
 /// The lines of the terminal that standard output is, by `LINES`, else 24. None where it is no terminal.

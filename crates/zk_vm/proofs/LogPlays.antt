@@ -228,7 +228,7 @@ slot_entry (Asked file refusal) of =
     record { given = refl; nowhere = refl; answer = refl; no_read = refl }
 slot_entry (At address) of = absurd of
 slot_entry (Shown signal) of = absurd of
-slot_entry (Read extra codes) of = absurd of
+slot_entry (Read extra codes ended) of = absurd of
 slot_entry (Stopped stop) of = absurd of
 
 slot_silent : (x : Entry) (stop : Option Stop) → SlotEntry x → IsSilent (x ∷ stop_told stop)
@@ -473,21 +473,21 @@ same_slot t to e a b (inr h) = let never = h.0 in absurd cc
 
 -- the entries of a read
 abbrev pub read_entries : Session → List ℕ → Session → List Entry
-read_entries mid codes next = Read (own_characters mid.state.game.memory) codes ∷ stop_told next.stopped
+read_entries mid codes next = Read (own_characters mid.state.game.memory) codes 13 ∷ stop_told next.stopped
 
 read_is : (s : Session) (e : Event) (codes : List ℕ) → is_read e ≡ true
-    → heard_by s e (Typed codes 13) ≡ Read (own_characters s.state.game.memory) codes
+    → heard_by s e (Typed codes 13) ≡ Read (own_characters s.state.game.memory) codes 13
 read_is s (event.Line text parse) codes h = refl
 read_is s event.Char codes h = refl
 read_is s event.Save codes h = absurd cc
 read_is s event.Restore codes h = absurd cc
 
-read_silent : (extra : ExtraTable) (codes : List ℕ) (x : Option Stop) → IsSilent (Read extra codes ∷ stop_told x)
+read_silent : (extra : ExtraTable) (codes : List ℕ) (x : Option Stop) → IsSilent (Read extra codes 13 ∷ stop_told x)
 read_silent extra codes None = record { given = refl; nowhere = refl }
 read_silent extra codes (Some stop) = record { given = refl; nowhere = refl }
 
 read_does : {K : Type 0} (t : SlotTells K) (extra : ExtraTable) (codes : List ℕ) (x : Option Stop) (a : K)
-    → SlotDid t (answers_in (Read extra codes ∷ stop_told x)) a a
+    → SlotDid t (answers_in (Read extra codes 13 ∷ stop_told x)) a a
 unfolding SlotDid
 read_does t extra codes None a = (a, (refl, refl))
 read_does t extra codes (Some stop) a = (a, (refl, refl))
@@ -500,7 +500,7 @@ reads_behind log turn mid next codes none =
     reads_both log (turn ++ read_entries mid codes next) (reads_in log) _
     refl (reads_both turn (read_entries mid codes next) [] _ none (one next.stopped))
   where
-    one : (x : Option Stop) → reads_in (Read (own_characters mid.state.game.memory) codes ∷ stop_told x)
+    one : (x : Option Stop) → reads_in (Read (own_characters mid.state.game.memory) codes 13 ∷ stop_told x)
         ≡ (own_characters mid.state.game.memory, codes) ∷ []
     one None = refl
     one (Some stop) = refl

@@ -12,7 +12,7 @@ use Rattle.zk_step.specs.declared.state.ending.Event.TheVariants.{Line, Char, Sa
 use Rattle.zk_step.specs.Routing.{Signals, no_signals}
 use Rattle.zk_vm.specs.declared.stop.Stop.{Stop}
 use Rattle.zk_vm.specs.declared.waiting.Waiting.{Waiting}
-use Rattle.zk_vm.specs.Answers.{Answer, answered, answered_by, codes_of, is_kept, file_of}
+use Rattle.zk_vm.specs.Answers.{Answer, answered, answered_by, codes_of, end_of, is_kept, file_of}
 use Rattle.zk_vm.specs.Sessions.{Session, given, given_to, resumed}
 use Rattle.zk_vm.specs.Step.{State, Step, Verdict, verdict_within, state_after, verdict_of}
 use Rattle.zk_vm.specs.Step.Step.{Goes as GoesTo, Waits, Quits, Faults, Exceeds}
@@ -20,7 +20,7 @@ use Rattle.zk_vm.specs.Step.Verdict.{GoesOn, WaitsFor, StopsBy}
 use Rattle.zk_vm.specs.Log.{Entry, Move, Passed, IsLeftIn, IsLog, IsPrefix, LogsJoin, address_in, address_told}
 use Rattle.zk_vm.specs.Log.{addresses, after, answer_in, answers_in, goes_by, heard_by, moved, moved_by, parts_of}
 use Rattle.zk_vm.specs.Log.{passed, signal_in, signals, stepped, stepped_to, stop_told, told}
-use Rattle.zk_vm.specs.Log.Entry.{At, Shown, Stopped}
+use Rattle.zk_vm.specs.Log.Entry.{At, Stopped}
 use Rattle.zk_vm.specs.Log.Move.{Goes, Gets, Part}
 use Rattle.zk_vm.proofs.AnswerSteps.{NoWait, answered_free}
 
@@ -179,7 +179,10 @@ first_same s Restore a b p q e = cc
 answered_same : (s : Session) (w : Waiting) (event : Event) (a b : Answer)
     → heard_by s event a ≡ heard_by s event b → answered_by s.state w.instruction event a ≡ answered_by s.state
     w.instruction event b
-answered_same s w (Line text parse) a b e = let same : codes_of a ≡ codes_of b = cc in rw same refl
+answered_same s w (Line text parse) a b e =
+    let same : codes_of a ≡ codes_of b = cc in
+    let ends : end_of a ≡ end_of b = cc in
+    rw (same, ends) refl
 answered_same s w Char a b e = let same : codes_of a ≡ codes_of b = cc in rw same refl
 answered_same s w Save a b e = let same : is_kept a ≡ is_kept b = cc in rw same refl
 answered_same s w Restore a b e = let same : file_of a ≡ file_of b = cc in rw same refl

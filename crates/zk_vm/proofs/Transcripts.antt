@@ -1,6 +1,6 @@
 -- The transcript, character by character.
 use Rattle.std.proofs.Common.{◌≡◌, ◌∙◌, ℕ, ◌+◌, ◌-◌, ◌*◌, ◌<◌, ◌≤◌, List, [], ◌∷◌, ◌++◌, length, take, get_or, Bool}
-use Rattle.std.proofs.Common.{true, false, Result, Ok, Err, nat_lt, sym, ap, subst, arith, append-nil, append_assoc}
+use Rattle.std.proofs.Common.{true, false, Result, Ok, Err, nat_lt, sym, ap, arith, append-nil, append_assoc}
 use Rattle.std.proofs.Common.{length-append}
 use Rattle.std.specs.Prelude.{if◌then◌else◌}
 use Rattle.std.proofs.lemmas.List.{take_more, map-append, length-take}

@@ -1,5 +1,5 @@
 -- The log of a machine: what passes between it and its world, in order.
-use Rattle.std.specs.Prelude.{◌≡◌, ◌⊎◌, ◌-◌, ◌+◌, ◌++◌, ◌==◌, ◌&&◌, ℕ, zero, suc, Bool, true, false, List, [], ◌∷◌}
+use Rattle.std.specs.Prelude.{◌≡◌, ◌⊎◌, ◌-◌, ◌+◌, ◌++◌, ◌==◌, ℕ, zero, suc, Bool, true, false, List, [], ◌∷◌}
 use Rattle.std.specs.Prelude.{drop, filter_map, length, map, take, Option, Some, None}
 use Rattle.zk_text.specs.Extra.{ExtraTable, own_characters}
 use Rattle.zk_state.specs.declared.refusal.Limit.TheVariants.{Steps}
@@ -11,7 +11,7 @@ use Rattle.zk_term.specs.Signals.{Signal, screen_text, script_text}
 use Rattle.zk_vm.specs.declared.stop.Stop.{Stop}
 use Rattle.zk_vm.specs.declared.stop.Stop.TheVariants.{Limit as LimitAt}
 use Rattle.zk_vm.specs.declared.waiting.Waiting.{Waiting}
-use Rattle.zk_vm.specs.Answers.{Answer, codes_of, is_kept, file_of}
+use Rattle.zk_vm.specs.Answers.{Answer, codes_of, end_of, is_kept, file_of}
 use Rattle.zk_vm.specs.Sessions.{Session, given_to, with_stop}
 use Rattle.zk_vm.specs.Plays.{image_of, refusal_of}
 use Rattle.zk_vm.specs.Step.{State, Step, Verdict, step, verdict_of, state_after, text_of}
@@ -21,12 +21,12 @@ use Rattle.zk_vm.specs.Step.Verdict.{GoesOn, WaitsFor, StopsBy}
 -- ---- entries
 
 -- What passes: the instruction at a byte address is carried out; a screen is given a signal; codes are read, by the
--- extra characters in force; a saved game is offered, and kept or not; one is asked for, and comes or not, and may be
--- refused; the machine stops.
+-- extra characters in force, and the one that ended them; a saved game is offered, and kept or not; one is asked for,
+-- and comes or not, and may be refused; the machine stops.
 pub data Entry : Type 0 where
   At : (address : ℕ) → Entry
   Shown : (signal : Signal) → Entry
-  Read : (extra : ExtraTable) (codes : List ℕ) → Entry
+  Read : (extra : ExtraTable) (codes : List ℕ) (ended : ℕ) → Entry
   Offered : (file : List ℕ) (kept : Bool) → Entry
   Asked : (file : Option (List ℕ)) (refusal : Option RestoreError) → Entry
   Stopped : (stop : Stop) → Entry
@@ -37,8 +37,8 @@ told t = map Shown t
 
 -- the entry of an answer, by what the machine waits for
 abbrev pub heard_by : Session → Event → Answer → Entry
-heard_by s (Line text parse) a = Read (own_characters s.state.game.memory) (codes_of a)
-heard_by s Char a = Read (own_characters s.state.game.memory) (codes_of a)
+heard_by s (Line text parse) a = Read (own_characters s.state.game.memory) (codes_of a) (end_of a)
+heard_by s Char a = Read (own_characters s.state.game.memory) (codes_of a) (end_of a)
 heard_by s Save a = Offered (image_of s) (is_kept a)
 heard_by s Restore a = Asked (file_of a) (refusal_of s (file_of a))
 
@@ -200,13 +200,13 @@ signal_in (Shown signal) = Some signal
 signal_in _ = None
 
 abbrev pub answer_in : Entry → Option Entry
-answer_in (Read extra codes) = Some (Read extra codes)
+answer_in (Read extra codes ended) = Some (Read extra codes ended)
 answer_in (Offered file kept) = Some (Offered file kept)
 answer_in (Asked file refusal) = Some (Asked file refusal)
 answer_in _ = None
 
 abbrev pub read_in : Entry → Option (ExtraTable × List ℕ)
-read_in (Read extra codes) = Some (extra, codes)
+read_in (Read extra codes ended) = Some (extra, codes)
 read_in _ = None
 
 -- the byte addresses of the instructions that were carried out

@@ -19,7 +19,7 @@ use Rattle.zk_vm.specs.declared.machine.pausing.Stepped.{Stepped}
 use Rattle.zk_vm.specs.declared.machine.pausing.Stepped.TheVariants as stepped
 use Rattle.zk_vm.specs.declared.stop.Stop.{Stop}
 use Rattle.zk_vm.specs.Halts.{Halt, IsKeeping, IsStep}
-use Rattle.zk_vm.specs.Log.{Entry, IsLog, Move, answers_in, moved, parts_of, scripted, shown, signals}
+use Rattle.zk_vm.specs.Log.{Entry, IsLog, Move, answers_in, moved, parts_of, signals}
 use Rattle.zk_vm.specs.Logged.{IsOn, Ran}
 use Rattle.zk_vm.specs.Sessions.{Session}
 

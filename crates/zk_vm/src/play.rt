@@ -1,9 +1,8 @@
 // Playing a story on devices.
 
-ghost use Rattle.std.specs.Prelude.{◌≡◌, ◌≤◌, ◌<◌, ◌+◌, ◌⊎◌, ◌++◌, ◌||◌, List, ℕ, length, true, false, None, Some};
+ghost use Rattle.std.specs.Prelude.{◌≡◌, ◌≤◌, ◌<◌, ◌+◌, ◌++◌, ◌||◌, List, ℕ, length, true, false, None, Some};
 ghost use Rattle.std.specs.Prelude.{IfOk, IfErr, OnOk, OnErr};
-ghost use Rattle.std.specs.List.{AllByRecursion};
-ghost use Rattle.zk_text.specs.Extra.{is_input_code, own_characters};
+ghost use Rattle.zk_text.specs.Extra.{own_characters};
 ghost use Rattle.zk_term.specs.Devices.{HasJust, Shows};
 ghost use Rattle.zk_term.specs.declared.lines.InputEnd.{InputEnd};
 ghost use Rattle.zk_term.specs.Lines.{Hears, FailsAlone, HasInputCodes, IsOverAfter, MeetsBound, ReadFailed};
@@ -238,9 +237,7 @@ pub fn next_line<R: Source>(lines: &mut Lines, reader: &mut R, machine: &Machine
 
 /// The code of a character that a line answers: its first, and a new line where it has none.
 fn first_of(codes: &[u8]) -> u8
-    requires { AllByRecursion (λ c. is_input_code c ≡ true) codes.now }
-    ensures value { result ≡ first_code codes.now }
-    ensures typed { (result ≡ 13) ⊎ (is_input_code result ≡ true) }
+    ensures { result ≡ first_code codes.now }
 {
     match codes {
         [] => 13,
@@ -253,7 +250,6 @@ pub fn answer(machine: &mut Machine, event: Event, codes: &[u8])
     requires waits { event_waited machine.old.waiting ≡ Some event }
     requires reads { is_read event ≡ true }
     requires few { length codes.now ≤ 255 }
-    requires typed { AllByRecursion (λ c. is_input_code c ≡ true) codes.now }
     ensures left { IsLeftAs machine.new (given machine.old (Typed codes.now 13))
         (given machine.old (Typed codes.now 13)).stopped }
     ensures free { machine.new.waiting ≡ None }

@@ -1,9 +1,12 @@
--- Worked examples of marks, by hand.
-use Rattle.std.specs.Prelude.{◌≡◌, Bool, true, false, [], ◌∷◌}
+-- Worked examples of marks and of keys, by hand.
+use Rattle.std.specs.Prelude.{◌≡◌, true, false, [], ◌∷◌, map, None}
 use Rattle.zk_term.specs.Signals.Signal.{Text, Script, Erase, Beep}
 use Rattle.zk_term.specs.declared.style.Bleep.TheVariants.{High, Low}
 use Rattle.zk_term.specs.declared.style.Style.{Style}
-use Rattle.zk_host.specs.Marks.{marked, run_by, style_mark}
+use Rattle.zk_host.specs.declared.collected.Collected.{Collected}
+use Rattle.zk_host.specs.Collecting.{nothing_collected}
+use Rattle.zk_host.specs.Marks.{marked, run_by, run_of, style_mark}
+use Rattle.zk_host.specs.Typing.{character_code}
 
 -- no style
 abbrev pub plain : Style
@@ -27,10 +30,30 @@ SignalsMark =
     ∷ Beep Low ∷ []) (record { bytes = []; before = 0 })
     ≡ record { bytes = 17 ∷ 96 ∷ 0 ∷ []; before = 64 }
 
+-- By the Standard's extra characters: delete, escape and the function keys are their own codes where there are such
+-- keys, and question marks else. What is a character is its code all the same: a new line 13, a tab a space, an ä 155.
+abbrev pub KeysAreCodes : Type 0
+KeysAreCodes =
+    (map (character_code None true) (8 ∷ 27 ∷ 129 ∷ 154 ∷ []) ≡ 8 ∷ 27 ∷ 129 ∷ 154 ∷ [])
+    × (map (character_code None false) (8 ∷ 27 ∷ 129 ∷ 154 ∷ []) ≡ 63 ∷ 63 ∷ 63 ∷ 63 ∷ [])
+    × (map (character_code None true) (0 ∷ 7 ∷ 26 ∷ 28 ∷ 127 ∷ 128 ∷ 155 ∷ 252 ∷ 385 ∷ [])
+    ≡ 63 ∷ 63 ∷ 63 ∷ 63 ∷ 63 ∷ 63 ∷ 63 ∷ 157 ∷ 63 ∷ [])
+    × (map (character_code None true) (10 ∷ 13 ∷ 9 ∷ 97 ∷ 228 ∷ []) ≡ 13 ∷ 13 ∷ 32 ∷ 97 ∷ 155 ∷ [])
+
+-- nothing waits, and a low bleep has sounded
+abbrev pub after_a_bleep : Collected
+after_a_bleep = record nothing_collected { before = 64 }
+
+-- two bytes wait after it, whose marks are lost
+abbrev pub without_marks : Collected
+without_marks = record after_a_bleep { screen = record { bytes = 65 ∷ 66 ∷ []; failed = false } }
+
 -- A run ends where the style changes or where something comes between. What came before it is told unless it was, and
--- where no byte waits, what came after the last.
+-- where no byte waits, what came after the last. Bytes without marks are one run.
 abbrev pub RunsAreTold : Type 0
 RunsAreTold =
-    (run_by (17 ∷ 1 ∷ 1 ∷ 17 ∷ 0 ∷ []) 64 false ≡ record { length = 3; style = 1; before = 16 })
-    × (run_by (17 ∷ 1 ∷ 0 ∷ []) 64 true ≡ record { length = 2; style = 1; before = 0 })
-    × (run_by [] 64 false ≡ record { length = 0; style = 0; before = 64 })
+    (run_by (17 ∷ 1 ∷ 1 ∷ 17 ∷ 0 ∷ []) after_a_bleep ≡ record { length = 3; style = 1; before = 16 })
+    × (run_by (17 ∷ 1 ∷ 0 ∷ []) (record after_a_bleep { told = true }) ≡ record { length = 2; style = 1; before = 0 })
+    × (run_by [] after_a_bleep ≡ record { length = 0; style = 0; before = 64 })
+    × (run_of (record without_marks { styled = true }) ≡ record { length = 2; style = 0; before = 64 })
+    × (run_of without_marks ≡ record { length = 2; style = 0; before = 0 })

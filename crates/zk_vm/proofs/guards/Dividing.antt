@@ -2,7 +2,7 @@
 use Rattle.std.proofs.Common.{◌≡◌, ◌∙◌, ◌⊎◌, ◌-◌, ◌+◌, inl, inr, ℕ, zero, suc, Bool, true, false, List, [], ◌∷◌, ◌++◌}
 use Rattle.std.proofs.Common.{append_assoc, append-nil, Option, Some, None, refl, ap, sym, arith}
 use Rattle.std.specs.List.{drop-map}
-use Rattle.std.specs.Prelude.{drop, map, take}
+use Rattle.std.specs.Prelude.{drop, take}
 use Rattle.std.proofs.lemmas.List.{drop-drop, drop-take, take-map, take-take, take-append-drop}
 use Rattle.std.proofs.lemmas.List.Elements.{filter_map-append}
 use Rattle.zk_step.specs.Routing.{Signals, on_script}

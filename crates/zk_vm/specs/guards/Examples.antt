@@ -1,6 +1,6 @@
 -- Worked examples of this crate's definitions: small stories, and what the Standard's machine does with them, worked
 -- out by hand.
-use Rattle.std.specs.Prelude.{◌≡◌, ℕ, List, [], ◌∷◌, ◌++◌, Some, None, map, replicate, codes, true, false}
+use Rattle.std.specs.Prelude.{◌≡◌, ℕ, List, [], ◌∷◌, ◌++◌, Some, None, replicate, codes, true, false}
 use Rattle.zk_mem.specs.declared.fault.Fault.TheVariants.{BadAddress, DivisionByZero, BadOpcode, CodePastEnd, ReadOnly}
 use Rattle.zk_state.specs.declared.refusal.Limit.TheVariants.{Frames, Words, Steps, Reads}
 use Rattle.zk_state.specs.Frames.{Frame, FrameList, first_frame, first_frames}
@@ -148,7 +148,7 @@ types line = Gets (Typed line 13) ∷ Goes ∷ Goes ∷ Goes ∷ []
 
 -- such a line is read, by the extra characters of the Standard, a character is shown for it, and the next read waits
 abbrev pub echo : List ℕ → ℕ → List Entry
-echo line c = Read None line ∷ At 68 ∷ letter c ∷ At 71 ∷ At 64 ∷ []
+echo line c = Read None line 13 ∷ At 68 ∷ letter c ∷ At 71 ∷ At 64 ∷ []
 
 -- each line answers one character: its first, and a new line where it has none
 abbrev pub LinesAnswerReads : Type 0
@@ -166,7 +166,7 @@ AnswersCountAnew =
     (passed (Goes ∷ types (codes "a") ++ types (codes "b")) (starts echoes (limits_of 1 1 3)) ≡ At 64
     ∷ echo (codes "a") 97 ++ echo (codes "b") 98)
     × (passed (Goes ∷ types (codes "a") ++ types (codes "b")) (starts echoes (limits_of 1 1 2)) ≡ At 64
-    ∷ Read None (codes "a") ∷ At 68 ∷ letter 97 ∷ At 71 ∷ Stopped (Limit 64 Steps) ∷ [])
+    ∷ Read None (codes "a") 13 ∷ At 68 ∷ letter 97 ∷ At 71 ∷ Stopped (Limit 64 Steps) ∷ [])
 
 -- a machine of a story that has answered so many reads
 abbrev pub after_reads : ℕ → Session → Session
@@ -187,10 +187,10 @@ ReadsAreLimited =
 abbrev pub AnswersStop : Type 0
 AnswersStop =
     (passed (Goes ∷ types (codes "a")) (starts (story_of (0xe4 ∷ 0x7f ∷ 64 ∷ 0 ∷ [])) (limits_of 1 1 10)) ≡ At 64
-    ∷ Read None (codes "a") ∷ Stopped (Fault 64 BadAddress) ∷ [])
+    ∷ Read None (codes "a") 13 ∷ Stopped (Fault 64 BadAddress) ∷ [])
     × (passed (Goes ∷ types []) (starts (story_of (0xe4 ∷ 0x7f ∷ 64 ∷ 0 ∷ [])) (limits_of 1 1 10)) ≡ At 64
-    ∷ Read None [] ∷ Stopped (Fault 64 ReadOnly) ∷ [])
-    × (passed (Goes ∷ types (codes "a")) (starts echoes (limits_of 1 0 10)) ≡ At 64 ∷ Read None (codes "a")
+    ∷ Read None [] 13 ∷ Stopped (Fault 64 ReadOnly) ∷ [])
+    × (passed (Goes ∷ types (codes "a")) (starts echoes (limits_of 1 0 10)) ≡ At 64 ∷ Read None (codes "a") 13
     ∷ Stopped (Limit 64 Words) ∷ [])
 
 -- a machine waits for a line or a character, and goes on from there; while it waits it stays as it is, and one that
@@ -219,10 +219,10 @@ shows_a_row =
 abbrev pub ViewsShowRows : Type 0
 ViewsShowRows =
     (passed (replicate 5 Goes ++ types (codes "x")) (begun shows_a_row 1 (limits_of 1 1 10) Upper)
-    ≡ At 64 ∷ At 67 ∷ At 70 ∷ At 73 ∷ At 76 ∷ shows (codes "| hi" ++ 10 ∷ []) ++ Read None (codes "x") ∷ At 80
+    ≡ At 64 ∷ At 67 ∷ At 70 ∷ At 73 ∷ At 76 ∷ shows (codes "| hi" ++ 10 ∷ []) ++ Read None (codes "x") 13 ∷ At 80
     ∷ Stopped Quit ∷ [])
     × (passed (replicate 5 Goes ++ types (codes "x")) (begun shows_a_row 1 (limits_of 1 1 10) Plain) ≡ At 64
-    ∷ At 67 ∷ At 70 ∷ At 73 ∷ At 76 ∷ Read None (codes "x") ∷ At 80 ∷ Stopped Quit ∷ [])
+    ∷ At 67 ∷ At 70 ∷ At 73 ∷ At 76 ∷ Read None (codes "x") 13 ∷ At 80 ∷ Stopped Quit ∷ [])
 
 -- past the most reads no row is shown either
 abbrev pub NoViewPastTheMostReads : Type 0
@@ -253,14 +253,14 @@ reads_into_script = story_of (0xf3 ∷ 0x7f ∷ 2 ∷ 0xe4 ∷ 0x7f ∷ 40 ∷ 0
 abbrev pub EndsAreScripted : Type 0
 EndsAreScripted =
     (passed (Goes ∷ Goes ∷ Gets (Typed (codes "go") 13) ∷ Goes ∷ Goes ∷ [])
-    (starts reads_into_script (limits_of 1 1 10)) ≡ At 64 ∷ At 67 ∷ Read None (codes "go") ∷ scripts 10 ∷ At 71
+    (starts reads_into_script (limits_of 1 1 10)) ≡ At 64 ∷ At 67 ∷ Read None (codes "go") 13 ∷ scripts 10 ∷ At 71
     ∷ Stopped Quit ∷ [])
     × (passed (Goes ∷ Goes ∷ Gets (Typed (codes "go") 133) ∷ Goes ∷ Goes ∷ [])
-    (starts reads_into_script (limits_of 1 1 10)) ≡ At 64 ∷ At 67 ∷ Read None (codes "go") ∷ At 71
+    (starts reads_into_script (limits_of 1 1 10)) ≡ At 64 ∷ At 67 ∷ Read None (codes "go") 133 ∷ At 71
     ∷ Stopped Quit ∷ [])
 
--- A host gives the upper window rows, 255 at most. Those that were there stay as they are, but for version 3, and in the
--- middle of a text nothing changes (sections 8.6.1.1 and 15, `split_window`).
+-- A host gives the upper window rows, 255 at most. Those that were there stay as they are, and in the middle of a text
+-- nothing changes (section 15, `split_window`).
 abbrev pub HostsSplit : Type 0
 HostsSplit =
     ((with_height (starts echoes (limits_of 1 1 10)) 2).state.game.windows.height ≡ 2)
@@ -319,7 +319,7 @@ PartsMakeNoStep =
 abbrev pub ReadsHaveParts : Type 0
 ReadsHaveParts =
     passed (replicate 4 Goes ++ Part 2 ∷ Goes ∷ types (codes "x")) (begun shows_a_row 1 (limits_of 1 1 10) Upper)
-    ≡ At 64 ∷ At 67 ∷ At 70 ∷ At 73 ∷ At 76 ∷ shows (codes "| hi" ++ 10 ∷ []) ++ Read None (codes "x") ∷ At 80
+    ≡ At 64 ∷ At 67 ∷ At 70 ∷ At 73 ∷ At 76 ∷ shows (codes "| hi" ++ 10 ∷ []) ++ Read None (codes "x") 13 ∷ At 80
     ∷ Stopped Quit ∷ []
 
 -- a machine that waits or has stopped, or whose transcript is still to get something, shows none; where no step is
@@ -359,7 +359,7 @@ OthersStay = NoneLeaves (replicate 3 Goes) (starts prints_and_quits (limits_of 1
 
 -- a log of all that may pass
 abbrev pub whole_log : List Entry
-whole_log = At 64 ∷ letter 97 ∷ scripts 98 ∷ Read (Some (228 ∷ [])) (99 ∷ []) ∷ At 71 ∷ Offered (1 ∷ []) true
+whole_log = At 64 ∷ letter 97 ∷ scripts 98 ∷ Read (Some (228 ∷ [])) (99 ∷ []) 13 ∷ At 71 ∷ Offered (1 ∷ []) true
     ∷ Asked None None ∷ Shown Erase ∷ letter 100 ∷ Stopped Quit ∷ []
 
 abbrev pub DevicesHaveParts : Type 0
@@ -368,7 +368,7 @@ DevicesHaveParts =
     × (signals whole_log ≡ Text 97 roman ∷ Script 98 ∷ Erase ∷ Text 100 roman ∷ [])
     × (shown whole_log ≡ codes "ad")
     × (scripted whole_log ≡ codes "b")
-    × (answers_in whole_log ≡ Read (Some (228 ∷ [])) (99 ∷ []) ∷ Offered (1 ∷ []) true ∷ Asked None None ∷ [])
+    × (answers_in whole_log ≡ Read (Some (228 ∷ [])) (99 ∷ []) 13 ∷ Offered (1 ∷ []) true ∷ Asked None None ∷ [])
     × (reads_in whole_log ≡ (Some (228 ∷ []), 99 ∷ []) ∷ [])
 
 -- ---- routines

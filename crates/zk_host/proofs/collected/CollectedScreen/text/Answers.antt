@@ -5,11 +5,11 @@ use Rattle.zk_host.proofs.collected.CollectedScreen.text.Goals as goal
 
 pub returns-then-is_lost : goal.returns-then-is_lost
 returns-then-is_lost c =
-    collects_lost _ _ _ (sym c.is_lost.ensures ∙ c.if-is_lost.true) refl refl refl refl (λ e. inl e)
+    collects_lost _ _ _ (sym c.is_lost.ensures ∙ c.if-is_lost.true) refl refl refl refl refl (λ e. inl e)
 
 pub returns-then-is_overfull : goal.returns-then-is_overfull
 returns-then-is_overfull c =
-    collects_lost _ _ _ refl refl refl refl refl
+    collects_lost _ _ _ refl refl refl refl refl refl
     (λ e. inr (leb-true _ _ (sym c.is_overfull.ensures ∙ c.if-is_overfull.true)))
 
 pub returns-in-Ok : goal.returns-in-Ok
@@ -28,4 +28,5 @@ returns-in-Err c =
       texts = collects_screen_part _ _ c.args.c works lost refl refl refl few c.in-Err.ensures.part;
       marks = λ kept. let never = sym kept ∙ lost in absurd cc;
       kept = refl;
+      told = refl;
     }

@@ -1,4 +1,4 @@
-use Rattle.std.proofs.Common.{◌≡◌, ◌∙◌, ℕ, List, ap, refl, sym}
+use Rattle.std.proofs.Common.{◌≡◌, ◌∙◌, ap, refl, sym}
 use Rattle.zk_state.specs.declared.refusal.Refusal.TheVariants.{Fault}
 use Rattle.zk_step.specs.declared.state.ending.Next.TheVariants.{Asks}
 use Rattle.zk_step.specs.declared.state.ending.Request.TheVariants.{SaveUndo}
