@@ -45,6 +45,7 @@ IsUnlisted l m most refused.Memory = Unit {0}
 IsUnlisted l m most refused.NotAwaited = ⊥
 IsUnlisted l m most refused.NotALine = ⊥
 IsUnlisted l m most refused.NoState = ⊥
+IsUnlisted l m most refused.NotAKey = ⊥
 
 -- the listings by their numbers
 abbrev pub listing_numbered : ℕ → Option Listing

@@ -24,7 +24,7 @@ use crate::marks::Run;
 use crate::name::name_of;
 use crate::options::are_within;
 use crate::text::Text;
-use crate::typed::{code_of, codes_of, is_line};
+use crate::typed::{code_of, codes_of, ending_key, is_line};
 use arrayvec::ArrayVec;
 use std::alloc::{AllocError, Global};
 use zk_mem::header::Header;
@@ -32,7 +32,6 @@ use zk_mem::memory::{Memory, Setup};
 use zk_mem::story::{OpenError, Story};
 use zk_snapshot::opening::{SnapshotError, open_snapshot};
 use zk_snapshot::snapshot::{has_snapshot, longest_snapshot, snapshot};
-use zk_step::input::terminating::is_terminating;
 use zk_step::state::ending::Event;
 use zk_step::state::game_state::View;
 use zk_vm::limits::Limits;
@@ -339,12 +338,12 @@ impl Play {
         if !is_line(line) {
             return Err(Refusal::NotALine);
         }
-        if key > 255 || !is_terminating(self.machine.machine().memory(), key as u8) {
+        let Some(key) = ending_key(self.machine.machine().memory(), key) else {
             return Err(Refusal::NotAKey);
-        }
+        };
         let codes = codes_of(self.machine.machine().memory(), line);
         self.machine.forget_grid();
-        self.machine.answer_line(codes.as_slice(), key as u8);
+        self.machine.answer_line(codes.as_slice(), key);
         Ok(())
     }
 

@@ -1,13 +1,15 @@
 // A line that was typed.
 
-ghost use Rattle.std.specs.Prelude.{◌≡◌, ◌<◌, true, IsTrue, ◌↔◌, length};
+ghost use Rattle.std.specs.Prelude.{◌≡◌, ◌<◌, true, IsTrue, ◌↔◌, length, Some, None, if◌then◌else◌};
 ghost use Rattle.zk_text.specs.Extra.{own_characters};
 ghost use Rattle.zk_term.specs.Characters.{line_codes};
+ghost use Rattle.zk_step.specs.Terminating.{is_terminating};
 ghost use Rattle.zk_host.specs.Typing.{character_code, is_key, is_line, is_plain};
 
 use arrayvec::ArrayVec;
 use std::io::Read;
 use zk_mem::memory::Memory;
+use zk_step::input::terminating::is_terminating;
 use zk_term::lines::{Input, Lines};
 use zk_term::source::Source;
 use zk_term::target::Failed;
@@ -69,6 +71,18 @@ pub fn codes_of(memory: &Memory, line: &[u8]) -> ArrayVec<u8, 255>
     match Lines::new().line(&mut typed, &Extra::of(memory)) {
         Input::Line(codes) => codes,
         Input::End | Input::Failed => unreachable!(),
+    }
+}
+
+/// The code of a key, if it ends a line of a story.
+#[tactic(auto, unfolding(zk_step::specs::Terminating::is_terminating))]
+pub fn ending_key(memory: &Memory, key: u32) -> Option<u8>
+    ensures { result ≡ (if is_terminating memory.now key then Some key else None) }
+{
+    if key <= 255 && is_terminating(memory, key as u8) {
+        Some(key as u8)
+    } else {
+        None
     }
 }
 

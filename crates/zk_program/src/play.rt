@@ -75,7 +75,9 @@ fn width_by(rt: &HostRuntime, width: Option<Amount>) -> Option<u8> {
         Amount::Found => {
             let columns = columns(rt)?;
             if assumes_columns(rt) {
-                let _ = eprintln!(rt; "zkit: using --width {columns}; for the terminal's width, type: export COLUMNS");
+                let _ = eprintln!(rt;
+                    "zkit: using --width {columns}; for the terminal's width, type: export COLUMNS"
+                );
             }
             u8::try_from(columns).ok()
         }

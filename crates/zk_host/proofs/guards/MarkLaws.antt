@@ -1,14 +1,14 @@
 -- Each byte has a mark, and what came before a run is told once.
-use Rattle.std.proofs.Common.{◌≡◌, ℕ, ◌+◌, ◌-◌, Bool, true, false, List, [], ◌∷◌, ◌++◌, length, replicate, refl}
-use Rattle.std.proofs.Common.{arith, length-append, length-replicate}
+use Rattle.std.proofs.Common.{◌≡◌, ℕ, ◌-◌, Bool, true, false, List, [], ◌∷◌, length, refl}
+use Rattle.std.proofs.Common.{arith, length-append}
+use Rattle.std.proofs.lemmas.List.{length-replicate}
 use Rattle.std.proofs.lemmas.Str.{len_utf8_bounds, length-encode}
-use Rattle.std.specs.Prelude.{bit_or}
-use Rattle.std.specs.Char.{encode_utf8, encode_utf8_all, len_utf8}
-use Rattle.zk_term.specs.Signals.{Signal, screen_text}
+use Rattle.std.specs.Prelude.{encode_utf8, encode_utf8_all}
+use Rattle.std.specs.Char.{len_utf8}
+use Rattle.zk_term.specs.Signals.{screen_text}
 use Rattle.zk_term.specs.Signals.Signal.{Text, Script, Erase, Beep}
 use Rattle.zk_term.specs.declared.style.Style.{Style}
-use Rattle.zk_host.specs.declared.collected.Collected.{Collected}
-use Rattle.zk_host.specs.Marks.{Marks, character_marks, marked, marked_by, run_of, run_told, style_mark}
+use Rattle.zk_host.specs.Marks.{character_marks, marked, marked_by, run_of, run_told, style_mark}
 use Rattle.zk_host.specs.guards.MarkLaws.{BeforeIsToldOnce, BytesHaveMarks}
 
 -- as many marks as a character has bytes
@@ -37,6 +37,6 @@ told_once c = by_kept c.styled refl c.marks.bytes refl
   where
     by_kept : (kept : Bool) → c.styled ≡ kept → (bytes : List ℕ) → c.marks.bytes ≡ bytes
         → (run_of (run_told c)).before ≡ 0
-    by_kept true kept [] none = rw (kept, none) (rw (kept, none) refl)
-    by_kept true kept (x ∷ xs) some = rw (kept, some) (rw (kept, some) refl)
-    by_kept false kept bytes any = rw kept (rw kept refl)
+    by_kept true kept [] none = rw (kept, none) refl
+    by_kept true kept (x ∷ xs) some = rw (kept, some) refl
+    by_kept false kept bytes any = rw kept refl

@@ -1,6 +1,5 @@
 -- What always holds of marks and of runs.
-use Rattle.std.specs.Prelude.{◌≡◌, ◌+◌, List, length}
-use Rattle.std.specs.Char.{encode_utf8_all}
+use Rattle.std.specs.Prelude.{◌≡◌, ◌+◌, List, length, encode_utf8_all}
 use Rattle.zk_term.specs.Signals.{Signal, screen_text}
 use Rattle.zk_host.specs.declared.collected.Collected.{Collected}
 use Rattle.zk_host.specs.Marks.{Marks, marked, run_of, run_told}

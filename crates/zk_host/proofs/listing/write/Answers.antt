@@ -1,1 +1,0 @@
-use Rattle.zk_host.proofs.listing.write.Goals as goal

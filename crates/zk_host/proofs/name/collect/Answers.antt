@@ -1,8 +1,4 @@
-use Rattle.std.proofs.Common.{List, [], arith}
-use Rattle.zk_text.specs.declared.unit.Unit.{Unit}
-use Rattle.zk_text.specs.Extra.{own_characters}
-use Rattle.zk_text.specs.Shown.{shown_all}
-use Rattle.zk_host.specs.Collecting.{CollectsTexts}
+use Rattle.std.proofs.Common.{arith}
 use Rattle.zk_host.proofs.Naming.{nothing_named, of_few, of_many}
 use Rattle.zk_host.proofs.name.collect.Goals as goal
 
