@@ -162,30 +162,44 @@ static void widen(struct box *box, uint32_t number, const struct row *row) {
     box->right = row->length > box->right ? row->length : box->right;
 }
 
-/* Draws the rows that the story took away again before it reads, over the text: a quotation. It stands in the middle, as
- * it does on 80 columns, with a space on both sides if there is room. */
-static void draw_box(const zkit *game, const zkit_window *window, int top, int bottom) {
+/* Finds the rows that the story took away again before it reads, without those in which it read a key. */
+static struct box find_box(const zkit *game, const zkit_window *window, uint32_t keyed) {
     struct box box = {0, 0, GRID, 0};
     uint8_t bytes[3 * GRID];
     struct row row;
-    for (uint32_t i = window->height + 1; i <= window->tallest; i++) {
+    uint32_t above = window->height > keyed ? window->height : keyed;
+    for (uint32_t i = above + 1; i <= window->tallest; i++) {
         read_row(&row, bytes, zkit_tallest_row(game, i, bytes, sizeof bytes));
         widen(&box, i, &row);
     }
-    int width = box.right - box.left, margin = width + 2 <= COLS;
-    int column = box.left - margin + (COLS - GRID) / 2;
-    if (column + width + 2 * margin > COLS)
-        column = COLS - width - 2 * margin;
+    return box;
+}
+
+/* Where so many rows from a row on are drawn between two rows of the screen, so that they do not hide the cursor. */
+static int beside_cursor(int at, int rows, int top, int bottom, int cursor) {
+    if (cursor < at || cursor >= at + rows)
+        return at;
+    if (cursor + rows < bottom)
+        return cursor + 1;
+    return cursor - rows > top ? cursor - rows : top;
+}
+
+/* Draws a box over the text: a quotation. It stands in the middle, as it does on 80 columns, with a space on both sides if
+ * there is room. */
+static void draw_box(const zkit *game, const struct box *box, int at, int bottom) {
+    uint8_t bytes[3 * GRID];
+    struct row row;
+    int width = box->right - box->left, margin = width + 2 <= COLS, whole = width + 2 * margin;
+    int column = box->left - margin + (COLS - GRID) / 2;
+    column = column + whole > COLS ? COLS - whole : column;
     column = column > 0 ? column : 0;
     attron(A_REVERSE);
-    for (uint32_t i = box.first; i <= box.last && i > 0; i++) {
-        int at = top + (int)(i - window->height) - 1;
-        if (at >= bottom)
-            break;
+    for (uint32_t i = box->first; i <= box->last && at < bottom; i++, at++) {
         read_row(&row, bytes, zkit_tallest_row(game, i, bytes, sizeof bytes));
-        mvhline(at, column, ' ', width + 2 * margin < COLS ? width + 2 * margin : COLS);
-        if (row.length > box.left)
-            mvaddnwstr(at, column + margin, row.at + box.left, row.length - box.left < COLS ? row.length - box.left : COLS);
+        int length = row.length - box->left;
+        mvhline(at, column, ' ', whole < COLS ? whole : COLS);
+        if (length > 0)
+            mvaddnwstr(at, column + margin, row.at + box->left, length < COLS ? length : COLS);
     }
     attroff(A_REVERSE);
 }
@@ -255,8 +269,11 @@ void display_draw(const zkit *game, const struct text *text, const struct shown 
     erase();
     draw_window(game, &window, draw_status_line(game), &upper_row, &upper_column);
     draw_text(text, shown, top, bottom, &row, &column);
-    if (!shown->is_back)
-        draw_box(game, &window, top, bottom);
+    struct box box = find_box(game, &window, shown->keyed);
+    if (!shown->is_back && box.first > 0) {
+        int at = top + (int)(box.first - window.height) - 1, rows = (int)(box.last - box.first) + 1;
+        draw_box(game, &box, beside_cursor(at, rows, top, bottom, row), bottom);
+    }
     if (window.selected && !shown->is_back) {
         row = upper_row;
         column = upper_column;
@@ -272,14 +289,10 @@ void display_draw(const zkit *game, const struct text *text, const struct shown 
     refresh();
 }
 
-void display_table(const char *const rows[][2], size_t count, const char *last) {
-    int height = (int)count < LINES - 1 ? (int)count : LINES - 1;
+void display_table(const char *const *rows, size_t count, const char *last) {
     erase();
-    for (int i = 0; i < height; i++) {
-        mvaddnstr(i, 0, rows[i][0], COLS);
-        if (COLS > 24)
-            mvaddnstr(i, 22, rows[i][1], COLS - 22);
-    }
+    for (int i = 0; i < (int)count && i < LINES - 1; i++)
+        mvaddnstr(i, 0, rows[i], COLS);
     move(LINES - 1, draw_mark(last));
     refresh();
 }

@@ -12,6 +12,7 @@ struct shown {
     place top;
     place end;              /* what stands from here on is not shown */
     place cursor;
+    uint32_t keyed;         /* in so many rows of the upper window a key was read, and they are no box when they go */
     const char *mark;       /* words in the last row, or null */
     bool is_asking;         /* the cursor stands behind these words */
     bool is_back;           /* earlier text is shown, without the box and the cursor of the story */
@@ -26,8 +27,8 @@ int display_columns(void);
 
 void display_draw(const zkit *game, const struct text *text, const struct shown *shown);
 
-/* Draws a table over the text, each row a key and what it does, and a last row of words. */
-void display_table(const char *const rows[][2], size_t count, const char *last);
+/* Draws rows of ASCII in place of all, and words in the last row. */
+void display_table(const char *const *rows, size_t count, const char *last);
 
 /* The words on the screen, without a mark: how many characters. */
 size_t display_words(wchar_t *words, size_t most);

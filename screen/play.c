@@ -60,23 +60,27 @@ static void take_text(struct play *play) {
     play->cursor = text_end(&play->text);
 }
 
-/* Shows new text a page at a time, with a key after each. `is_back` is set, if the reader has gone back instead. */
+/* Shows a page of new text, and waits for a key. */
+static enum fate show_page(struct play *play) {
+    play->is_paged = true;
+    key pressed = play_key(play);
+    enum fate fate = pressed == PRESS_GONE ? IS_LEFT : GOES_ON;
+    if (pressed == PRESS_STOP || pressed == PRESS_ESCAPE)
+        fate = stop(play);
+    else
+        play->seen = page_end(play);
+    play->is_paged = false;
+    return fate;
+}
+
+/* Shows new text a page at a time. `is_back` tells whether the reader has gone back instead. */
 static enum fate show_pages(struct play *play, bool *is_back) {
     size_t states = play->state_count;
-    while (has_more(play)) {
-        play->is_paged = true;
-        key pressed = play_key(play);
-        play->is_paged = false;
-        if (pressed == PRESS_GONE)
-            return IS_LEFT;
-        if (pressed != PRESS_STOP && pressed != PRESS_ESCAPE)
-            play->seen = page_end(play);
-        else if (stop(play) == IS_LEFT)
-            return IS_LEFT;
-        if ((*is_back = play->state_count != states))
-            return GOES_ON;
-    }
-    return GOES_ON;
+    enum fate fate = GOES_ON;
+    while (fate == GOES_ON && play->state_count == states && has_more(play))
+        fate = show_page(play);
+    *is_back = play->state_count != states;
+    return fate;
 }
 
 /* ---- answers */
@@ -136,6 +140,7 @@ static enum fate answer_line(struct play *play) {
     }
     text_add_words(&play->text, "\n");
     play->seen = text_end(&play->text);
+    play->keyed = 0;
     history_add(&play->lines, &editor.line);
     note_answer(play, &editor.line);
     zkit_line(play->game, (const uint8_t *)bytes, bytes_of(editor.line.at, editor.line.length, bytes));
@@ -148,6 +153,8 @@ static uint32_t for_story(key pressed) {
 }
 
 static enum fate answer_character(struct play *play) {
+    zkit_window window = {.size = sizeof window};
+    zkit_window_of(play->game, &window);
     for (;;) {
         key pressed = play_key(play);
         if (pressed == PRESS_GONE || (pressed == PRESS_STOP && ask_to_leave(play) == IS_LEFT))
@@ -159,6 +166,7 @@ static enum fate answer_character(struct play *play) {
         if (for_story(pressed) == 0)
             continue;
         play->seen = text_end(&play->text);
+        play->keyed = window.height;
         note_answer(play, &no_line);
         zkit_character(play->game, for_story(pressed));
         return GOES_ON;

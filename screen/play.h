@@ -40,6 +40,7 @@ struct play {
     bool is_back;                /* earlier text is shown, from this row on: */
     place back;
     place cursor;
+    uint32_t keyed;              /* the rows of the upper window in which the last key was read: a menu */
     const char *question;        /* asked in the last row, or null */
     char notice[LONGEST_NOTICE]; /* told there until the next key */
 

@@ -5,21 +5,22 @@
 #include <stdarg.h>
 #include <string.h>
 
-static const char *const help[][2] = {
-    {"Enter", "ends a line"},
-    {"Up, Down", "brings back earlier lines"},
-    {"Tab", "completes a word that is on the screen; again: another one"},
-    {"Ctrl-A, Ctrl-E", "go to the start or the end of the line, as Home and End do"},
-    {"Ctrl-U, Ctrl-K", "erase what is before or behind the cursor"},
-    {"Ctrl-W", "erases the word before the cursor"},
-    {"Page Up, Page Down", "show earlier and later text"},
-    {"Alt-U", "takes back your last line or key"},
-    {"Alt-S", "shows the seed"},
-    {"Alt-H, F1", "shows this"},
-    {"Ctrl-L", "draws the screen again"},
-    {"Ctrl-Z", "stops the program; the shell's command fg goes on with it"},
-    {"Ctrl-C", "leaves the story, or stops one that runs on"},
-    {"", "Escape and then a key is the same as the key with Alt."},
+/* No row is wider than 40 columns. */
+static const char *const help[] = {
+    "Enter      ends the line",
+    "Up, Down   bring back earlier lines",
+    "Tab        completes a word of the screen",
+    "Ctrl-A, E  go to the start, to the end",
+    "Ctrl-U, K  erase what is before, behind",
+    "Ctrl-W     erases the word before",
+    "PgUp, PgDn show earlier, later text",
+    "Alt-U      takes back the last turn",
+    "Alt-S      shows the seed",
+    "Alt-H, F1  show this",
+    "Ctrl-L     draws the screen again",
+    "Ctrl-Z     stops until fg goes on",
+    "Ctrl-C     leaves, or stops a long turn",
+    "Esc, key   the same as Alt and the key",
 };
 
 void notice(struct play *play, const char *format, ...) {
@@ -74,7 +75,7 @@ static const char *mark_of(const struct play *play) {
 /* What is shown if the reader does not look at earlier text. */
 static struct shown now_shown(const struct play *play) {
     int columns = display_columns();
-    struct shown shown = {0};
+    struct shown shown = {.keyed = play->keyed};
     shown.mark = mark_of(play);
     shown.is_asking = play->question || play->is_paged;
     if (play->is_paged) {
