@@ -217,8 +217,9 @@ static int play_on_terminal(void) {
         fprintf(stderr, "zkit-screen: the terminal %s is not known; zkit play plays here\n", kind ? kind : "(no TERM)");
         return REFUSED;
     }
-    notice(&play, "[Alt-H or F1 shows the keys]");
     go_on_or_begin();
+    if (!play.notice[0])
+        notice(&play, "[Alt-H or F1 shows the keys]");
     if (!play.is_left)
         play_story(&play);
     terminal_close();

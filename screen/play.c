@@ -22,14 +22,10 @@ enum fate ask_to_leave(struct play *play) {
 
 /* Stops a story that runs, or prints, and asks what is to become of it. */
 static enum fate stop(struct play *play) {
-    for (;;) {
-        key pressed = ask(play, "Stopped. Go on, back or quit? (g/b/q) ", "gbq");
-        if (pressed == L'q' || pressed == PRESS_GONE)
-            return IS_LEFT;
-        if (pressed != L'b' || go_back(play))
-            return GOES_ON;
-        text_add_words(&play->text, "\n[There is nothing to go back to.]\n");
-    }
+    key pressed = ask(play, "Stopped. Go on, back or quit? (g/b/q) ", "gbq");
+    if (pressed == L'b' && !go_back(play))
+        pressed = ask(play, "No way back. Go on or quit? (g/q) ", "gq");
+    return pressed == L'q' || pressed == PRESS_GONE ? IS_LEFT : GOES_ON;
 }
 
 /* ---- text */

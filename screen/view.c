@@ -89,6 +89,8 @@ static struct shown now_shown(const struct play *play) {
     shown.top = shown.top > erased ? shown.top : erased;
     shown.end = text_end(&play->text);
     shown.cursor = play->cursor < shown.end ? play->cursor : shown.end;
+    place edited = text_row_of(&play->text, shown.cursor, columns);
+    shown.top = shown.top < edited ? shown.top : edited;
     return shown;
 }
 
