@@ -31,16 +31,20 @@ static place last_lines(const struct play *play) {
     return start;
 }
 
+/* Tells once that the play is not kept. */
+static void tell_of_keeping(struct play *play) {
+    if (!play->is_told_of_keeping)
+        notice(play, "[This play is not kept: %s]", strerror(errno));
+    play->is_told_of_keeping = true;
+}
+
 static void write_kept(struct play *play) {
     size_t length;
     uint8_t *bytes = kept_bytes(play->options.seed, &play->text, last_lines(play), play->now.snapshot, play->now.length,
                                 &length);
     errno = ENOMEM;
-    if (!bytes || !file_write(play->kept, bytes, length)) {
-        if (!play->is_told_of_keeping)
-            notice(play, "[This play can't be kept for the next time: %s]", strerror(errno));
-        play->is_told_of_keeping = true;
-    }
+    if (!bytes || !file_write(play->kept, bytes, length))
+        tell_of_keeping(play);
     free(bytes);
 }
 
@@ -126,8 +130,11 @@ bool open_kept(struct play *play) {
     size_t length;
     uint32_t reason = ZKIT_NOT_A_SNAPSHOT;
     zkit *game = NULL;
-    if (!kept_path(play->kept, &play->about, play->story, play->story_length))
+    errno = ENOENT;
+    if (!kept_path(play->kept, &play->about, play->story, play->story_length)) {
         play->kept[0] = 0;
+        tell_of_keeping(play);
+    }
     uint8_t *bytes = play->kept[0] ? file_read(play->kept, MOST_KEPT, &length) : NULL;
     if (!bytes)
         return false;
