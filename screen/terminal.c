@@ -123,7 +123,6 @@ static key control_key(wint_t character) {
     case 5: return PRESS_END;
     case 6: return PRESS_RIGHT;
     case 11: return PRESS_ERASE_TO_END;
-    case 12: return PRESS_REDRAW;
     case 14: return PRESS_DOWN;
     case 16: return PRESS_UP;
     case 21: return PRESS_ERASE_TO_START;
@@ -176,13 +175,17 @@ static key suspend(void) {
     return PRESS_REDRAW;
 }
 
-/* The meaning of a key that has come. */
+/* The meaning of a key that has come. Control-Z and Control-L are done here. */
 static key meaning(int came, wint_t character) {
     wint_t next;
     if (came == KEY_CODE_YES)
         return named_key(character);
     if (character == 26)
         return suspend();
+    if (character == 12) {
+        clearok(curscr, TRUE);
+        return PRESS_REDRAW;
+    }
     if (character == 27) {
         timeout(ALT_WAIT);
         int after = get_wch(&next);

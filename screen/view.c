@@ -54,7 +54,8 @@ static place page_start(const struct play *play) {
 
 bool has_more(const struct play *play) {
     int columns = display_columns();
-    place row = text_rows_on(&play->text, page_start(play), rows_of(play, false) - 1, columns);
+    int rows = rows_of(play, play->notice[0] != 0);
+    place row = text_rows_on(&play->text, page_start(play), rows - 1, columns);
     return text_next_row(&play->text, row, columns) != row;
 }
 
