@@ -70,7 +70,8 @@ static enum fate ask_name(struct play *play, const struct question *question, ch
     names.count = 0;
     list_saves(play, question, &names);
     for (;;) {
-        snprintf(prompt, sizeof prompt, question->offered[0] ? "%s [%s]? " : "%s? ", question->words, question->offered);
+        const char *form = question->offered[0] ? "%s [%s]? " : "%s? ";
+        snprintf(prompt, sizeof prompt, form, question->words, question->offered);
         text_add_words(&play->text, prompt);
         editor_begin(&editor, &names, LONGEST_LINE);
         key pressed = edit(play, &editor);
@@ -126,7 +127,8 @@ static bool write_save(struct play *play, const char *path) {
     zkit_image(play->game, NULL, 0, &length);
     uint8_t *bytes = malloc(length);
     errno = ENOMEM;
-    bool is_kept = bytes && zkit_image(play->game, bytes, length, &length) == ZKIT_DONE && file_write(path, bytes, length);
+    bool is_kept = bytes && zkit_image(play->game, bytes, length, &length) == ZKIT_DONE
+        && file_write(path, bytes, length);
     if (!is_kept)
         notice(play, "[%s: %s]", path, strerror(errno));
     free(bytes);

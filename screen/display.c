@@ -184,8 +184,8 @@ static int beside_cursor(int at, int rows, int top, int bottom, int cursor) {
     return cursor - rows > top ? cursor - rows : top;
 }
 
-/* Draws a box over the text: a quotation. It stands in the middle, as it does on 80 columns, with a space on both sides if
- * there is room. */
+/* Draws a box over the text: a quotation. It stands in the middle, as it does on 80 columns, with a space on both sides
+ * if there is room. */
 static void draw_box(const zkit *game, const struct box *box, int at, int bottom) {
     uint8_t bytes[3 * GRID];
     struct row row;

@@ -1,4 +1,5 @@
-/* The play that is kept at each read, so that it goes on where the reader was: a snapshot, the seed, and the last text. */
+/* The play that is kept at each read, so that it can go on where the reader was: a snapshot, the seed and the last
+ * text. */
 #ifndef KEPT_H
 #define KEPT_H
 

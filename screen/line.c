@@ -58,8 +58,9 @@ static void insert(struct editor *editor, wchar_t character) {
     struct line *line = &editor->line;
     if (line->length >= editor->longest)
         return;
-    memmove(line->at + editor->cursor + 1, line->at + editor->cursor, (line->length - editor->cursor) * sizeof *line->at);
-    line->at[editor->cursor++] = character;
+    wchar_t *cursor = line->at + editor->cursor++;
+    memmove(cursor + 1, cursor, (line->length + 1 - editor->cursor) * sizeof *cursor);
+    *cursor = character;
     line->length++;
 }
 

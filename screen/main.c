@@ -54,8 +54,8 @@ struct words {
 };
 
 static void show_version(void) {
-    uint32_t version = zkit_version();
-    printf("zkit-screen %u.%u.%u\n", (unsigned)(version >> 16), (unsigned)(version >> 8 & 0xff), (unsigned)(version & 0xff));
+    unsigned version = zkit_version();
+    printf("zkit-screen %u.%u.%u\n", version >> 16, version >> 8 & 0xff, version & 0xff);
 }
 
 /* Reads a number of 64 bits. Answers whether it is one. */

@@ -205,13 +205,14 @@ static enum fate answer(struct play *play, uint32_t asked, time_t since) {
 static enum fate tell_end(struct play *play) {
     uint8_t words[200];
     uint32_t status = zkit_status(play->game);
+    size_t count = zkit_text_of_reason(status, zkit_reason(play->game), words, sizeof words);
     char seed[80];
     if (play->text.column > 0)
         text_add_words(&play->text, "\n");
     text_add_words(&play->text, "[The story has ended");
     if (status != ZKIT_QUIT) {
         text_add_words(&play->text, ": ");
-        text_add_bytes(&play->text, words, zkit_text_of_reason(status, zkit_reason(play->game), words, sizeof words), 0);
+        text_add_bytes(&play->text, words, count, 0);
     }
     snprintf(seed, sizeof seed, ". Its seed was %llu.]\n", (unsigned long long)play->options.seed);
     text_add_words(&play->text, seed);

@@ -68,7 +68,7 @@ void draw(struct play *play);
 /* Draws all and waits for a key. It scrolls, and shows help and the seed, by itself. */
 key play_key(struct play *play);
 
-/* Asks for one of some keys in the last row: PRESS_ESCAPE or PRESS_STOP stand for none of them, PRESS_GONE is itself. */
+/* Asks for one of some keys in the last row: PRESS_ESCAPE and PRESS_STOP are answers too, and so is PRESS_GONE. */
 key ask(struct play *play, const char *question, const char *answers);
 
 /* Whether there is more new text than the screen has room for; and the place behind the page of it that is shown. */

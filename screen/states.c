@@ -96,7 +96,8 @@ bool go_back(struct play *play) {
     if (play->state_count == 0)
         return false;
     struct state *state = &play->states[play->state_count - 1];
-    zkit *game = zkit_open_snapshot(play->story, play->story_length, state->snapshot, state->length, &play->options, NULL);
+    zkit *game = zkit_open_snapshot(play->story, play->story_length, state->snapshot, state->length, &play->options,
+                                    NULL);
     if (!game)
         return false;
     replace_game(play, game);

@@ -82,6 +82,18 @@ int terminal_signal(void) {
 
 /* ---- taking the terminal */
 
+/* Some terminals send other bytes for these keys than their description says. */
+static void name_keys(void) {
+    static const int codes[] = {KEY_UP, KEY_DOWN, KEY_RIGHT, KEY_LEFT, KEY_HOME, KEY_END};
+    static const char last[] = "ABCDHF";
+    for (int i = 0; last[i]; i++) {
+        char bytes[] = {27, '[', last[i], 0};
+        define_key(bytes, codes[i]);
+        bytes[1] = 'O';
+        define_key(bytes, codes[i]);
+    }
+}
+
 bool terminal_open(void) {
     tcgetattr(STDIN_FILENO, &before);
     take_signals();
@@ -97,6 +109,7 @@ bool terminal_open(void) {
     nonl();
     noecho();
     keypad(stdscr, TRUE);
+    name_keys();
     timeout(KEY_WAIT);
     set_escdelay(100);
     return true;
