@@ -130,8 +130,12 @@ static void show_help(struct play *play) {
 static bool is_done_by_view(struct play *play, key pressed) {
     switch (pressed) {
     case PRESS_REDRAW: return true;
-    case PRESS_PAGE_UP:
-    case PRESS_PAGE_DOWN: scroll(play, pressed == PRESS_PAGE_UP); return true;
+    case PRESS_PAGE_UP: scroll(play, true); return true;
+    case PRESS_PAGE_DOWN:
+        if (play->is_paged && !play->is_back)
+            return false;
+        scroll(play, false);
+        return true;
     case PRESS_HELP: show_help(play); return true;
     case PRESS_SEED: notice(play, "[seed %llu]", (unsigned long long)play->options.seed); return true;
     default: return pressed == PRESS_NONE;
