@@ -10,9 +10,10 @@
 
 #include <locale.h>
 #include <stdio.h>
+#include <fcntl.h>
 #include <stdlib.h>
 #include <string.h>
-#include <unistd.h>
+#include <sys/stat.h>
 
 static int tries;
 
@@ -144,6 +145,35 @@ static void try_files(const char *folder) {
     TRY(path_of(path, folder, "nowhere/file") && !file_write(path, (const uint8_t *)"one", 3));
 }
 
+/* Of 25 saved games the 20 newest are listed, the newest first, and those of one time by their names. */
+static void try_saves(const char *folder) {
+    static const zkit_story story = {.release = 0x102, .checksum = 0x304, .serial = "261130"};
+    static const uint8_t bytes[34] = "FORM....IFZSIFhd\0\0\0\r\1\2""261130\3\4";
+    static const int listed[] = {24, 22, 23, 20, 18, 19, 16, 17, 14, 15, 12, 13, 10, 11, 8, 9, 6, 7, 4, 5};
+    static struct saved saves[MOST_SAVES];
+    char path[LONGEST_PATH], name[20];
+    for (int i = 0; i < 25; i++) {
+        int number = i * 7 % 25;
+        struct timespec times[2] = {{1000 + number / 2, 0}, {1000 + number / 2, 0}};
+        snprintf(name, sizeof name, "%02d.qzl", number);
+        TRY(path_of(path, folder, name) && file_write(path, bytes, sizeof bytes - (number == 21)));
+        TRY(utimensat(AT_FDCWD, path, times, 0) == 0);
+    }
+    /* 21.qzl is too short to be one */
+    TRY(saves_in(folder, &story, saves) == 20);
+    for (int i = 0; i < 20; i++) {
+        snprintf(name, sizeof name, "%02d.qzl", listed[i]);
+        TRY(strcmp(saves[i].name, name) == 0 && saves[i].time == 1000 + listed[i] / 2);
+    }
+    for (int i = 16; i < 34; i++) {
+        uint8_t other[34];
+        memcpy(other, bytes, sizeof other);
+        other[i]++;
+        TRY(is_save_of(other, sizeof other, &story) == (i < 20 || i > 29));
+    }
+    TRY(is_save_of(bytes, 34, &story) && !is_save_of(bytes, 33, &story) && saves_in("nowhere", &story, saves) == 0);
+}
+
 /* What is kept is found again; each part of it, and each with a changed byte, is refused or has its parts in it. */
 static void try_kept(void) {
     struct text text, again;
@@ -187,6 +217,7 @@ int main(int count, char **words) {
     try_history();
     try_names();
     try_files(words[1]);
+    try_saves(words[1]);
     try_kept();
     printf("%d tries\n", tries);
     return 0;
