@@ -157,12 +157,12 @@ class Worker:
 
     def __init__(self, folder: pathlib.Path) -> None:
         self.folder, self.room, self.browser = folder, folder / "room", Browser(folder)
-        for name in ("web", "examples", "conformance"):
+        for name in ("web", "examples", "conformance", "screen"):
             shutil.copytree(TOP / name, folder / name, symlinks=True)
         for name in ("dist", "include"):
             (folder / name).symlink_to(TOP / name)
-        test = folder / "examples/curses/test"
-        test.write_text(test.read_text(encoding="utf-8").replace("seq 100", "seq 60"), encoding="utf-8")
+        test = folder / "screen/test"
+        test.write_text(test.read_text(encoding="utf-8").replace("seq 400", "seq 200"), encoding="utf-8")
 
     def prepare(self) -> None:
         """Makes what web/tests.js takes, once."""
@@ -189,10 +189,9 @@ class Worker:
         status, said = run([self.folder / "heap_test"], self.folder, 20)
         return refused("heap_test", status, said)
 
-    def by_example(self, file: str) -> Optional[Outcome]:
-        """Runs the test of an example. A terminal that this leaves where it has no end is ended."""
-        test, *words = {"screen.c": ["curses/test"], "play.c": ["embed/test", "--play"]}[file]
-        came = run([self.folder / "examples" / test, *words], self.folder, 25)
+    def by_program(self, test: str, *words: str) -> Optional[Outcome]:
+        """Runs the test of a program. A terminal that this leaves where it has no end is ended."""
+        came = run([self.folder / test, *words], self.folder, 90)
         for socket in self.folder.glob("tmp.*/socket*"):
             run(["tmux", "-S", socket, "kill-server"], self.folder)
         return refused(test, *came)
@@ -230,7 +229,8 @@ class Worker:
             words = ["-std=c11", "-O1", "-g", "-Wall", "-Wextra", "-Wpedantic", "-Werror", "-fno-sanitize-recover=all"]
             return run(["gcc", *words, "-fsanitize=address,undefined", f"-I{TOP / 'include'}", "-o",
                         self.folder / "heap_test", self.folder / "web/heap_test.c"], self.folder)[0] == 0
-        words = ["cc", "-std=c99", "-O0", "-Wall", "-Wextra", "-Wpedantic", "-Werror", f"-I{TOP / 'include'}", "-c"]
+        standard = "-std=c11" if path.startswith("screen/") else "-std=c99"
+        words = ["cc", standard, "-O0", "-Wall", "-Wextra", "-Wpedantic", "-Werror", f"-I{TOP / 'include'}", "-c"]
         return run([*words, "-o", os.devnull, self.folder / path], self.folder)[0] == 0
 
     def tests(self, plant: Plant, cases: list[Case], most: int) -> Optional[Outcome]:
@@ -240,8 +240,10 @@ class Worker:
             return next((it for part in PARTS[path] if (it := self.by_node(part))), None)
         if path == "web/heap.c":
             return self.by_heap_test()
-        if path.startswith("examples/"):
-            return self.by_example(pathlib.Path(path).name)
+        if path.startswith("screen/"):
+            return self.by_program("screen/test")
+        if path == "examples/embed/play.c":
+            return self.by_program("examples/embed/test", "--play")
         outcome = self.by_node(LOOKED_AT[path]) if path in LOOKED_AT else None
         return outcome or self.by_page(plant, cases, most)
 

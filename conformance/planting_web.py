@@ -18,7 +18,7 @@ from slips import (COMMON_SWAPS, Rule, Slip, closing, ends, indent, last_of, num
 from sources import TOP
 
 SOURCES = (
-    "web/zkit.js", "web/player.js", "web/play.js", "web/page/*.js", "web/heap.c", "examples/curses/screen.c",
+    "web/zkit.js", "web/player.js", "web/play.js", "web/page/*.js", "web/heap.c", "screen/*.c",
     "examples/embed/play.c",
 )
 # Texts and comments; what lies between two slashes behind an operator or a bracket is a pattern of JavaScript.

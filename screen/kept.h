@@ -1,0 +1,36 @@
+/* The play that is kept at each read, so that it can go on where the reader was: a snapshot, the seed and the last
+ * text. */
+#ifndef KEPT_H
+#define KEPT_H
+
+#include <stdbool.h>
+#include <stddef.h>
+#include <stdint.h>
+
+#include "files.h"
+#include "text.h"
+#include "zkit.h"
+
+struct kept {
+    uint64_t seed;
+    const uint8_t *text;     /* four bytes for each character: its number, and its style in the last byte */
+    size_t text_length;
+    const uint8_t *snapshot;
+    size_t snapshot_length;
+};
+
+/* The path of the file for a story: in $XDG_STATE_HOME/zkit, or ~/.local/state/zkit, by the story's release, serial
+ * number and checksum, and a sum of all its bytes. Makes the folder. Answers whether there is one. */
+bool kept_path(char path[LONGEST_PATH], const zkit_story *about, const uint8_t *story, size_t length);
+
+/* The bytes of such a file, with the last text from a place on; null if there is no memory. */
+uint8_t *kept_bytes(uint64_t seed, const struct text *text, place from, const uint8_t *snapshot, size_t snapshot_length,
+                    size_t *length);
+
+/* Finds the parts of such a file, and answers whether it is one. */
+bool kept_parts(const uint8_t *bytes, size_t length, struct kept *kept);
+
+/* Adds its text. */
+void kept_text(const struct kept *kept, struct text *text);
+
+#endif
