@@ -31,6 +31,7 @@ export class Input {
         line.addEventListener("keydown", (event) => this.keyInLine(event));
         at("space").addEventListener("click", () => this.give(SPACE));
         document.addEventListener("keydown", (event) => this.keyAnywhere(event));
+        document.addEventListener("close", putCaret, true);
     }
 
     /**
@@ -69,8 +70,7 @@ export class Input {
         if (document.querySelector("dialog[open]"))
             return;
         line.focus({ preventScroll: true });
-        // (Chromium gives the focus back where a window is closed by the mouse, but not the caret)
-        line.setSelectionRange(line.selectionStart, line.selectionEnd);
+        putCaret();
     }
 
     /** Awaits nothing for now; what is typed meanwhile stays. */
@@ -154,6 +154,12 @@ export class Input {
             line.focus({ preventScroll: true });
         }
     }
+}
+
+/** Where a window is closed by the mouse, Chromium gives the focus back to the line, but not the caret. */
+function putCaret() {
+    if (document.activeElement === line)
+        line.setSelectionRange(line.selectionStart, line.selectionEnd);
 }
 
 /**

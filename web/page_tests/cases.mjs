@@ -5,6 +5,7 @@ import { writeFileSync } from "node:fs";
 import { contrast, named } from "./access.mjs";
 import { KEEPING, blorb, spoilInPage } from "./keeping.mjs";
 import { EXAMPLES, MENU, basename, holds, join, linesOf, native, pause, readFileSync, same, sameWithKeys } from "./page.mjs";
+import { PERSON } from "./person.mjs";
 import { telling } from "./stories.mjs";
 import { USING } from "./using.mjs";
 
@@ -837,6 +838,7 @@ export const CASES = [
     ["lines that just fit, and that just do not", wraps],
     ...KEEPING,
     ...USING,
+    ...PERSON,
     ["360 pixels wide", narrow],
     ["contrast of all texts", contrast],
     ["roles and names", named],

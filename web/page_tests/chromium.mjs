@@ -133,6 +133,14 @@ export class Chromium {
         await Promise.all(events.map((event) => this.call("Input.dispatchMouseEvent", event)));
     }
 
+    /** Taps at a place by a finger. */
+    async touch(x, y) {
+        await this.call("Emulation.setTouchEmulationEnabled", { enabled: true });
+        const touch = (type, touchPoints) => this.call("Input.dispatchTouchEvent", { type, touchPoints });
+        await Promise.all([touch("touchStart", [{ x, y }]), touch("touchEnd", [])]);
+        await this.call("Emulation.setTouchEmulationEnabled", { enabled: false });
+    }
+
     async choose(id, path) {
         const { root } = await this.call("DOM.getDocument");
         const { nodeId } = await this.call("DOM.querySelector", { nodeId: root.nodeId, selector: `#${id}` });

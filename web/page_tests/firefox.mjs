@@ -149,6 +149,13 @@ export class Firefox {
         await this.wire.send("WebDriver:PerformActions", { actions: [{ type: "pointer", id: "mouse", actions }] });
     }
 
+    /** Taps at a place by a finger. */
+    async touch(x, y) {
+        const actions = [{ type: "pointerMove", x, y }, { type: "pointerDown", button: 0 }, { type: "pointerUp", button: 0 }];
+        const finger = { type: "pointer", id: "finger", parameters: { pointerType: "touch" }, actions };
+        await this.wire.send("WebDriver:PerformActions", { actions: [finger] });
+    }
+
     async choose(id, path) {
         const { value } = await this.wire.send("WebDriver:FindElement", { using: "css selector", value: `#${id}` });
         await this.wire.send("WebDriver:ElementSendKeys", { id: value[ELEMENT], text: path });

@@ -129,6 +129,19 @@ export class Page {
         await this.browser.mouse(...await this.until(placeInPage, selector));
     }
 
+    /** Taps by a finger in the same way. */
+    async tap(selector) {
+        await this.browser.touch(...await this.until(placeInPage, selector));
+    }
+
+    /** What has the focus, and where the caret is in it. */
+    focus() {
+        return this.run(() => {
+            const it = document.activeElement;
+            return `${it?.id || it?.tagName} ${it?.selectionStart ?? "-"}`;
+        });
+    }
+
     /** Chooses a button of the menu. */
     async menu(id) {
         await this.click("#show-menu");
