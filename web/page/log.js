@@ -8,7 +8,8 @@ import { Width } from "./reflow.js";
 /** @typedef {import("./machine.js").Run} Run */
 /** @typedef {{from: number, to: number, styles: string[]}} Range a part of a text that is not in roman */
 /** @typedef {{kind: Kind, text: string, ranges?: Range[]}} Piece */
-/** @typedef {{blocks: number, held: string}} Mark */
+/** @typedef {{blocks: number, held: string, turn: number}} Mark */
+/** @typedef {{blocks: Piece[][], held: string, turn?: number}} KeptLog what a reload has; once it had no turn */
 
 /** So many characters a block has at most, about. */
 const BLOCK = 6000;
@@ -51,6 +52,19 @@ function styled(line, begin, ranges) {
     return parts.filter((part) => part !== "");
 }
 
+/**
+ * What a reader looks at, by how far the text is scrolled, and how far it was for the newest turn and can be at most.
+ * @param {number} top
+ * @param {number} turn
+ * @param {number} bottom
+ * @returns {"turn" | "end" | "before"}
+ */
+function lookedAt(top, turn, bottom) {
+    if (Math.abs(top - turn) < 2)
+        return "turn";
+    return top > bottom - 2 ? "end" : "before";
+}
+
 const scroller = at("scroller");
 const older = at("older");
 const log = at("log");
@@ -68,7 +82,12 @@ export class Log {
         /** The block that the newest answer began. */
         this.turn = 0;
         this.isDue = false;
+        /** How far the text was scrolled for the newest turn, and what the reader looks at since. */
+        this.top = 0;
+        /** @type {"turn" | "end" | "before"} */
+        this.look = "turn";
         scroller.addEventListener("scroll", () => this.scrolled());
+        new ResizeObserver(() => this.resized()).observe(scroller);
     }
 
     clear() {
@@ -93,8 +112,10 @@ export class Log {
         if (!piece || piece.kind !== kind || kind !== "text")
             block.push(piece = { kind, text: "" });
         piece.text += text;
-        if (styles.length > 0)
-            (piece.ranges ||= []).push({ from: piece.text.length - text.length, to: piece.text.length, styles });
+        if (styles.length > 0) {
+            piece.ranges = piece.ranges || [];
+            piece.ranges.push({ from: piece.text.length - text.length, to: piece.text.length, styles });
+        }
         this.due();
     }
 
@@ -204,7 +225,7 @@ export class Log {
 
     /** @returns {Mark} */
     mark() {
-        return { blocks: this.blocks.length, held: this.held };
+        return { blocks: this.blocks.length, held: this.held, turn: this.turn };
     }
 
     /**
@@ -214,24 +235,28 @@ export class Log {
     cut(mark) {
         this.blocks.length = Math.min(this.blocks.length, mark.blocks);
         this.held = mark.held;
-        this.turn = Math.max(0, this.blocks.length - 1);
+        this.turn = mark.turn;
         this.showEnd();
     }
 
-    /** The newest text, for a reload. */
+    /**
+     * The newest text, for a reload.
+     * @returns {KeptLog}
+     */
     kept() {
         let size = 0;
         let first = this.blocks.length;
         while (first > 0 && size < KEPT)
             size += this.blocks[--first].reduce((sum, piece) => sum + piece.text.length, 0);
-        return { blocks: this.blocks.slice(first), held: this.held };
+        return { blocks: this.blocks.slice(first), held: this.held, turn: Math.max(0, this.turn - first) };
     }
 
-    /** @param {{blocks: Piece[][], held: string}} it */
+    /** @param {KeptLog} it */
     fill(it) {
         this.clear();
         this.blocks = it.blocks;
         this.held = it.held;
+        this.turn = it.turn ?? Math.max(0, it.blocks.length - 1);
         for (const piece of it.blocks.flat().filter((one) => one.kind === "text"))
             this.width.see(piece.text);
         this.showEnd();
@@ -292,15 +317,31 @@ export class Log {
         this.first = this.firstNew;
     }
 
+    /** How far the text can be scrolled. */
+    bottom() {
+        return scroller.scrollHeight - scroller.clientHeight;
+    }
+
     /** Scrolls so that the newest answer's text is read from its start. */
     goToTurn() {
         const element = /** @type {HTMLElement | null} */ (log.children[this.turn - this.firstNew] || null);
-        const bottom = scroller.scrollHeight - scroller.clientHeight;
-        scroller.scrollTop = element ? Math.min(bottom, element.offsetTop - scroller.offsetTop - 16) : bottom;
+        const turn = element ? element.offsetTop - scroller.offsetTop - 16 : Infinity;
+        scroller.scrollTop = Math.min(this.bottom(), turn);
+        this.top = scroller.scrollTop;
+        this.look = "turn";
+    }
+
+    /** Keeps in view what the reader looks at where the view grows or shrinks, as by a keyboard on the screen. */
+    resized() {
+        if (this.look === "turn")
+            this.goToTurn();
+        else if (this.look === "end")
+            scroller.scrollTop = this.bottom();
     }
 
     /** Puts older blocks back where the reader comes near them. */
     scrolled() {
+        this.look = lookedAt(scroller.scrollTop, this.top, this.bottom());
         if (scroller.scrollTop > scroller.clientHeight || this.first === 0)
             return;
         const from = Math.max(0, this.first - SHOWN);

@@ -23,6 +23,7 @@ const input = new Input((answer) => play.give(answer));
 const play = new Play(log, screen, input, {
     save: (image) => askSave(ofPlay(), image),
     restore: () => askRestore(ofPlay()),
+    opened,
     changed,
 });
 const moduleSum = sumOf(moduleBytes());
@@ -35,13 +36,17 @@ function ofPlay() {
     return { sum: play.sum, game, place: screen.place(), line: play.reads() };
 }
 
-/** Shows and keeps what has changed in the play. */
-function changed() {
+/** Shows the part of the page for a play before anything is drawn or measured in it. */
+function opened() {
     const name = play.story ? play.story.name : "zkit";
     at("title").textContent = name;
     document.title = `${name} · zkit`;
     at("welcome").hidden = true;
     at("play").hidden = at("tools").hidden = false;
+}
+
+/** Shows and keeps what has changed in the play. */
+function changed() {
     at("script").hidden = play.script === "";
     if (isLink(location.hash))
         history.replaceState(null, "", location.href.replace(/#.*/, ""));

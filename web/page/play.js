@@ -29,6 +29,7 @@ import { sumOf } from "./sums.js";
  * @typedef {object} Reader
  * @property {(image: Uint8Array) => Promise<boolean>} save
  * @property {() => Promise<Uint8Array | null>} restore
+ * @property {() => void} opened
  * @property {() => void} changed
  */
 
@@ -273,6 +274,7 @@ export class Play {
         this.sum = sumOf(story.bytes);
         this.seed = seed;
         this.script = "";
+        this.reader.opened();
     }
 
     /** Notes that the states are gone that the story's own UNDO goes back to. */

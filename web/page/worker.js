@@ -114,7 +114,7 @@ function postText() {
     const script = game.transcript();
     if (runs.length > 0 || script)
         page.postMessage({ runs, script });
-    return runs.reduce((sum, run) => sum + run.text.length, 0);
+    return runs.reduce((sum, { text }) => sum + text.length, 0);
 }
 
 /**

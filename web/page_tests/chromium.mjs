@@ -77,8 +77,27 @@ export class Chromium {
     async open() {
         const { targetId } = await this.pipe.send("Target.createTarget", { url: "about:blank" });
         const { sessionId } = await this.pipe.send("Target.attachToTarget", { targetId, flatten: true });
-        this.call = (method, params) => this.pipe.send(method, params, sessionId);
+        this.here = { targetId, call: (method, params) => this.pipe.send(method, params, sessionId) };
+        this.call = this.here.call;
         await Promise.all(["Page.enable", "Runtime.enable", "Log.enable", "DOM.enable"].map((method) => this.call(method)));
+    }
+
+    /** Opens another tab of the same size and goes to it, and answers the one before. */
+    async tab() {
+        const before = this.here;
+        await this.open();
+        await this.size(...this.sized);
+        return before;
+    }
+
+    /** Goes to a tab, and closes the one before if that is wanted. */
+    async goTo(tab, isClosing = false) {
+        const { targetId } = this.here;
+        this.here = tab;
+        this.call = tab.call;
+        await this.pipe.send("Target.activateTarget", { targetId: tab.targetId });
+        if (isClosing)
+            await this.pipe.send("Target.closeTarget", { targetId });
     }
 
     version() {
@@ -90,6 +109,7 @@ export class Chromium {
     }
 
     async size(width, height, scale = 1) {
+        this.sized = [width, height, scale];
         await this.call("Emulation.setDeviceMetricsOverride", { width, height, deviceScaleFactor: scale, mobile: false });
     }
 

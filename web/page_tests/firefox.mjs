@@ -114,6 +114,21 @@ export class Firefox {
         await this.wire.send("WebDriver:SetWindowRect", { width: 2 * width - w, height: 2 * height - h });
     }
 
+    /** Opens another tab and goes to it, and answers the one before. */
+    async tab() {
+        const { value: before } = await this.wire.send("WebDriver:GetWindowHandle");
+        const { handle } = await this.wire.send("WebDriver:NewWindow", { type: "tab" });
+        await this.goTo(handle);
+        return before;
+    }
+
+    /** Goes to a tab, and closes the one before if that is wanted. */
+    async goTo(handle, isClosing = false) {
+        if (isClosing)
+            await this.wire.send("WebDriver:CloseWindow");
+        await this.wire.send("WebDriver:SwitchToWindow", { handle });
+    }
+
     async go(url) {
         await this.wire.send("WebDriver:Navigate", { url: "about:blank" });
         await this.wire.send("WebDriver:Navigate", { url });

@@ -41,6 +41,17 @@ export function holds(condition, words) {
         throw new Error(words);
 }
 
+/** In the page: whether the newest turn is read from its start: its line, or where none was typed its first text. */
+function newestIsSeen() {
+    const scroller = document.getElementById("scroller");
+    const around = scroller.getBoundingClientRect();
+    const [it] = [...scroller.querySelectorAll(".typed, .note")].slice(-1);
+    const { top, bottom } = (it || scroller.querySelector(".text")).getBoundingClientRect();
+    const left = scroller.scrollHeight - scroller.scrollTop - scroller.clientHeight;
+    const isLow = left < 2 || top < around.top + 100;
+    return scroller.clientHeight > 0 && top >= around.top && bottom <= around.bottom && isLow;
+}
+
 /** In the page: where an element may be clicked; null where it is not seen, or something lies over it. */
 function placeInPage(selector) {
     const it = document.querySelector(selector);
@@ -132,6 +143,11 @@ export class Page {
     /** Taps by a finger in the same way. */
     async tap(selector) {
         await this.browser.touch(...await this.until(placeInPage, selector));
+    }
+
+    /** Whether the newest turn is seen from its line on: as much of it as the view takes. */
+    newestIsSeen() {
+        return this.run(newestIsSeen);
     }
 
     /** What has the focus, and where the caret is in it. */

@@ -1,9 +1,8 @@
 // What a person meets: where the focus is and what is typed then, what is seen of the newest turn, and what is spoken. All
 // is done by keys, the mouse and fingers of the browser.
 
-import { EXAMPLES, MENU, holds, join, native, same } from "./page.mjs";
+import { MENU, holds, native, same } from "./page.mjs";
 
-const Z5 = join(EXAMPLES, "lighthouse.z5");
 const lastTyped = () => [...document.querySelectorAll("#scroller .typed")].pop()?.textContent.trimEnd() ?? "";
 const isOpen = () => document.querySelector("dialog[open]") !== null;
 
@@ -87,8 +86,57 @@ async function typesAfterWindows(page) {
     holds(!await page.run(isOpen), "a window is open");
 }
 
+const WALK = ["open bag", "take letter", "north", "look", "west", "look", "east", "inventory", "look"];
+
+/** Plays so far that the text scrolls, and waits until that is kept. */
+async function walked(page) {
+    await page.fresh();
+    await page.click("#example");
+    await page.rests();
+    await page.sayAll(WALK);
+    holds(await page.newestIsSeen(), "the newest turn is not seen while it is played");
+    await page.keeps(WALK.length);
+}
+
+/** What a page shows that goes on with a play: its newest turn, its line with the caret, its rows by its width. */
+async function goesOnInSight(page, what) {
+    await page.rests();
+    holds(await page.newestIsSeen(), `the newest turn is not seen ${what}`);
+    same(await page.focus(), "line 0", `the focus ${what}`);
+    const isNarrow = await page.run(() => innerWidth < 600);
+    same(await page.run(() => document.querySelectorAll("#upper .grid").length), isNarrow ? 0 : 1, `the grids ${what}`);
+    await typesOn(page, "look", what);
+    await page.keeps(WALK.length + 1);
+}
+
+/** After a reload and in a new tab the reader is where the play was: nothing has to be clicked or scrolled. */
+async function backInSight(page) {
+    for (const width of [1100, 360]) {
+        await page.browser.size(width, 640);
+        try {
+            await walked(page);
+            await page.reload();
+            await goesOnInSight(page, `after a reload at ${width} pixels`);
+            await page.click("#undo");
+            await page.rests();
+            await page.keeps(WALK.length);
+            const before = await page.browser.tab();
+            try {
+                await page.browser.go(page.url);
+                await page.ready();
+                await goesOnInSight(page, `in a new tab at ${width} pixels`);
+            } finally {
+                await page.browser.goTo(before, true);
+            }
+        } finally {
+            await page.browser.size(1100, 800);
+        }
+    }
+}
+
 export const PERSON = [
     ["typing after a game was saved", typesAfterSaving],
     ["typing at once after a game was saved", typesAtOnce],
     ["typing after a window was left", typesAfterWindows],
+    ["a reload and a new tab show the newest turn", backInSight],
 ];
