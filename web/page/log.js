@@ -82,6 +82,8 @@ export class Log {
         /** The block that the newest answer began. */
         this.turn = 0;
         this.isDue = false;
+        /** Whether nothing is drawn: a play is repeated. */
+        this.isStill = false;
         /** How far the text was scrolled for the newest turn, and what the reader looks at since. */
         this.top = 0;
         /** @type {"turn" | "end" | "before"} */
@@ -95,6 +97,7 @@ export class Log {
         this.held = "";
         this.width = new Width();
         this.first = this.firstNew = this.turn = 0;
+        this.isStill = false;
         older.replaceChildren();
         log.replaceChildren();
     }
@@ -236,7 +239,7 @@ export class Log {
         this.blocks.length = Math.min(this.blocks.length, mark.blocks);
         this.held = mark.held;
         this.turn = mark.turn;
-        this.showEnd();
+        this.isStill = true;
     }
 
     /**
@@ -270,17 +273,23 @@ export class Log {
 
     /** Draws soon what has changed. */
     due() {
-        if (this.isDue)
+        if (this.isDue || this.isStill)
             return;
         this.isDue = true;
         setTimeout(() => {
             this.isDue = false;
-            this.draw();
+            if (!this.isStill)
+                this.draw();
         }, 0);
     }
 
     /** Draws the newest blocks that do not stand in the page yet, and the last one anew. */
     draw() {
+        if (this.isStill) {
+            this.isStill = false;
+            this.showEnd();
+            return;
+        }
         const isLow = scroller.scrollHeight - scroller.scrollTop - scroller.clientHeight < 80;
         const shown = log.children.length;
         const from = Math.max(this.firstNew, this.firstNew + shown - 1);

@@ -162,7 +162,7 @@ export class Opening {
         const bytes = await bytesOf(file);
         const shared = bytes[0] === 0x7b ? playOf(new TextDecoder().decode(bytes)) : null;
         if (shared) {
-            await this.offer(shared);
+            await this.offer(shared, file.name);
             return;
         }
         await trying(file.name, async () => {
@@ -175,10 +175,15 @@ export class Opening {
     }
 
     /**
-     * Shows a play of a link or a file, if its story is here; else asks for that.
-     * @param {Shared} shared
+     * Shows a play of a link or a file, if its story is here; else asks for that. Where it is not shown, says why.
+     * @param {Shared | string} shared
+     * @param {string} name
      */
-    async offer(shared) {
+    async offer(shared, name) {
+        if (typeof shared === "string") {
+            tell(`${name}: this play can't be shown: ${shared}.`, true);
+            return;
+        }
         const story = shared.ifid === EXAMPLE.ifid ? example() : await storyOf(shared.ifid);
         if (story) {
             await this.showShared(shared, story);
@@ -234,10 +239,10 @@ export class Opening {
         const shared = await playAt(location.hash);
         history.replaceState(null, "", location.href.replace(/#.*/, ""));
         if (shared)
-            await this.offer(shared);
+            await this.offer(shared, "The link");
         else
             tell("The link can't be read: it is cut off, or this browser is too old for it.", true);
-        return shared !== null;
+        return shared !== null && typeof shared !== "string";
     }
 
     async restart() {
@@ -254,7 +259,9 @@ export class Opening {
      */
     async goTo(answers, count) {
         const { story } = this.play;
-        if (story)
-            await this.start(story, answers.slice(0, count), this.play.seed, answers.slice(count));
+        if (!story)
+            return;
+        tell("");
+        await trying(story.name, () => this.play.goTo(answers, count));
     }
 }

@@ -2,7 +2,7 @@
 // answers give the same play: that is what a link has, and how the reader goes back to any line.
 
 import { agreed, at, tell, toBase64 } from "./at.js";
-import { fits, isRead } from "./answers.js";
+import { isRead } from "./answers.js";
 import { hideOver, showOver, showPaused, showRunning } from "./bars.js";
 import { Machine, Trapped } from "./machine.js";
 import { boxText } from "./screen.js";
@@ -22,6 +22,7 @@ import { sumOf } from "./sums.js";
  * @property {number} answers
  * @property {import("./log.js").Mark} log
  * @property {string} chain
+ * @property {number} script how long the story's own transcript was
  */
 
 /**
@@ -39,9 +40,6 @@ const OPTIONS = { steps: 1000000000 };
 /** So often a story asks for saved games before the reader is asked whether to go on. */
 const MOST_FILES = 3;
 
-/** So often a play that is repeated goes on by itself where much was written. */
-const MOST_PAUSES = 20;
-
 /** So many states to go back to are kept. */
 const MARKS = 32;
 
@@ -58,6 +56,16 @@ const PAUSED = {
 
 /** Something else was begun meanwhile. */
 export class Left extends Error {}
+
+/**
+ * The last one of some marks from which so many answers can be reached without the start of the story; if there is one.
+ * @param {(Mark | null)[]} marks in the order of their answers
+ * @param {number} count
+ */
+function nearest(marks, count) {
+    const found = marks.filter((mark) => mark && mark.snapshot && mark.answers <= count);
+    return found.length > 0 ? found[found.length - 1] : null;
+}
 
 export class Play {
     /**
@@ -200,6 +208,32 @@ export class Play {
     }
 
     /**
+     * Goes to where so many of some answers were given: from the nearest snapshot of this play, or else from the start
+     * of the story. The others can still be gone to.
+     * @param {Answer[]} answers
+     * @param {number} count
+     */
+    async goTo(answers, count) {
+        const story = /** @type {File} */ (this.story);
+        const mark = nearest([...this.marks, this.here], count);
+        if (!mark) {
+            await this.start(story, this.seed, answers.slice(0, count), answers.slice(count));
+            return;
+        }
+        const machine = await this.idleMachine();
+        await this.unlessLeft(machine.resume(story.bytes, /** @type {Uint8Array} */ (mark.snapshot)));
+        this.answers = answers.slice(0, mark.answers);
+        this.later = answers.slice(count);
+        this.marks = this.marks.filter((it) => it.answers < mark.answers);
+        this.log.cut(mark.log);
+        this.chain = mark.chain;
+        this.script = this.script.slice(0, mark.script);
+        this.turnText = "";
+        this.here = null;
+        await this.guarded(() => this.replay(answers.slice(mark.answers, count)));
+    }
+
+    /**
      * The story that a file has; null where it is a Blorb file without one. The play goes on meanwhile.
      * @param {Uint8Array} file
      */
@@ -230,8 +264,13 @@ export class Play {
             return;
         }
         this.dropMachine();
+        await this.toLastRead();
+    }
+
+    /** Goes on from the last read, with a machine that may be another one. */
+    async toLastRead() {
         if (this.here)
-            await this.backTo(this.here);
+            await this.goTo([...this.answers, ...this.later], this.here.answers);
     }
 
     /** Ends the machine; the next use makes another one. */
@@ -258,7 +297,8 @@ export class Play {
         this.input.remember(play.answers);
         this.chain = play.chain;
         this.lastRows = play.box;
-        this.freshened();
+        if (!play.hasStates)
+            this.freshened();
         await this.guarded(async () => this.settle(await this.step(null)));
     }
 
@@ -277,7 +317,7 @@ export class Play {
         this.reader.opened();
     }
 
-    /** Notes that the states are gone that the story's own UNDO goes back to. */
+    /** Notes that the states are gone that the story's own UNDO goes back to: a play was kept without them. */
     freshened() {
         const last = this.answers[this.answers.length - 1];
         const isNoted = typeof last === "object" && "fresh" in last;
@@ -298,10 +338,16 @@ export class Play {
             this.dropMachine();
             if (!(error instanceof Trapped))
                 throw error;
-            if (this.here)
-                await this.backTo(this.here);
+            await this.toLastRead();
             tell(`The interpreter failed (${error.message}) and was restarted.`, true);
         }
+    }
+
+    /** Awaits no answer while the story runs. */
+    rest() {
+        this.beBusy(true);
+        this.input.rest();
+        hideOver();
     }
 
     /**
@@ -311,9 +357,7 @@ export class Play {
     async step(answer) {
         const round = this.round;
         const machine = /** @type {Machine} */ (this.machine);
-        this.beBusy(true);
-        this.input.rest();
-        hideOver();
+        this.rest();
         const soon = setTimeout(() => showRunning("The story is running."), SOON);
         try {
             return await this.unlessLeft(machine.run(answer, (runs, script) => this.written(round, runs, script)));
@@ -401,7 +445,7 @@ export class Play {
      * @param {Answer} answer
      */
     note(answer) {
-        if (this.here) {
+        if (this.here && this.here.snapshot) {
             this.marks.push(this.here);
             this.marks.splice(0, this.marks.length - MARKS);
         }
@@ -414,59 +458,53 @@ export class Play {
     }
 
     /**
-     * Gives a story that was opened all answers of a record, as far as they fit. Where it asks for saved games after
-     * these, the reader is asked.
+     * Runs the story and gives it all answers of a record, as far as they fit and the reader does not stop it. Nothing
+     * is drawn meanwhile. Where it asks for saved games after these, the reader is asked.
      * @param {Answer[]} answers
      */
     async replay(answers) {
-        this.isHalted = false;
-        const soon = setTimeout(() => showRunning("Repeating the play…"), SOON);
-        let standing = await this.runOn(null).finally(() => clearTimeout(soon));
-        const again = setTimeout(() => showRunning("Repeating the play…"), SOON);
-        try {
-            standing = await this.repeat(standing, answers);
-        } finally {
-            clearTimeout(again);
-        }
-        showRunning("");
+        const standing = answers.length > 0 ? await this.repeat(answers) : await this.step(null);
         this.settle(await this.answerFiles(standing));
     }
 
-    /**
-     * Gives answers as far as they fit, until the reader stops it.
-     * @param {Standing} standing
-     * @param {Answer[]} answers
-     */
-    async repeat(standing, answers) {
-        for (const answer of answers) {
-            const reads = standing.awaits === "line" || standing.awaits === "character";
-            if (this.isHalted || !fits(standing.awaits, answer))
-                break;
-            if (reads)
-                this.reach(standing);
-            if (isRead(answer))
-                this.note(answer);
-            else
-                this.answers.push(answer);
-            standing = await this.runOn(answer);
-        }
+    /** @param {Answer[]} answers */
+    async repeat(answers) {
+        const [machine, round, began] = [/** @type {Machine} */ (this.machine), this.round, Date.now()];
+        let turns = -1;
+        this.rest();
+        this.isHalted = false;
+        this.log.isStill = true;
+        const { given, ...standing } = await this.unlessLeft(machine.replay(answers, (parts) => {
+            for (const part of round === this.round ? parts : [])
+                this.repeated(round, answers[turns++], part);
+            if (round === this.round && Date.now() - began > SOON)
+                showRunning(`Repeating the play: ${turns} of ${answers.length}.`);
+        }));
+        if (this.isHalted)
+            this.later = [...answers.slice(given), ...this.later];
+        showRunning("");
         return standing;
     }
 
     /**
-     * A step that goes on by itself where much was written.
-     * @param {Answer | null} answer
+     * Takes an answer that was given again, if any, and what came of it.
+     * @param {number} round
+     * @param {Answer | undefined} answer
+     * @param {import("./machine.js").Turn} turn
      */
-    async runOn(answer) {
-        let standing = await this.step(answer);
-        for (let i = 0; i < MOST_PAUSES && standing.awaits === "pause"; i++)
-            standing = await this.step(null);
-        return standing;
+    repeated(round, answer, { runs, script, ...turn }) {
+        if (answer !== undefined && isRead(answer))
+            this.note(answer);
+        else if (answer !== undefined)
+            this.answers.push(answer);
+        this.written(round, runs, script);
+        if (turn.awaits === "line" || turn.awaits === "character")
+            this.reach({ ...turn, snapshot: null });
     }
 
     /**
      * Notes that the story reads, or has ended.
-     * @param {Standing} standing
+     * @param {Pick<Standing, "awaits" | "rows" | "box" | "snapshot">} standing
      */
     reach(standing) {
         if (this.turnText)
@@ -481,6 +519,7 @@ export class Play {
             return;
         this.here = {
             snapshot: standing.snapshot, answers: this.answers.length, log: this.log.mark(), chain: this.chain,
+            script: this.script.length,
         };
     }
 
@@ -515,6 +554,7 @@ export class Play {
             return;
         }
         this.input.hide();
+        this.log.draw();
         if (awaits === "stopped") {
             this.reach(standing);
             showOver(standing, this.here !== null);
@@ -524,7 +564,7 @@ export class Play {
         this.reader.changed();
     }
 
-    /** Goes back to before the last answer: by the story's own state, or else by a snapshot of the read before. */
+    /** Goes back to before the last answer: by the story's own state, or else by a snapshot of a read before. */
     async undo() {
         const awaits = this.standing ? this.standing.awaits : "stopped";
         if (this.isBusy || (awaits !== "line" && awaits !== "character")) {
@@ -545,41 +585,20 @@ export class Play {
 
     /** Back to the last read, from a story that has stopped or was stopped. */
     async back() {
-        const { here } = this;
-        if (here)
-            await this.guarded(() => this.backTo(here));
+        if (!this.here)
+            return;
+        await this.guarded(() => this.toLastRead());
+        tell("Went back one step.");
     }
 
     async backToLast() {
-        const mark = this.marks.pop();
-        const last = this.answers.length - 1 - [...this.answers].reverse().findIndex(isRead);
-        if (mark) {
-            await this.backTo(mark);
-        } else if (last < this.answers.length) {
-            await this.start(/** @type {File} */ (this.story), this.seed, this.answers.slice(0, last));
-        } else {
+        const last = this.answers.map(isRead).lastIndexOf(true);
+        if (last < 0) {
             tell("There is nothing to go back to.");
             this.settle(await this.step(null));
-        }
-    }
-
-    /** @param {Mark} mark */
-    async backTo(mark) {
-        const story = /** @type {File} */ (this.story);
-        const answers = this.answers.slice(0, mark.answers);
-        if (!mark.snapshot) {
-            await this.start(story, this.seed, answers);
             return;
         }
-        const machine = await this.idleMachine();
-        await this.unlessLeft(machine.resume(story.bytes, mark.snapshot));
-        this.answers = answers;
-        this.freshened();
-        this.log.cut(mark.log);
-        this.chain = mark.chain;
-        this.turnText = "";
-        this.here = null;
-        await this.guarded(async () => this.settle(await this.step(null)));
+        await this.goTo([...this.answers, ...this.later], last);
         tell("Went back one step.");
     }
 
@@ -595,7 +614,7 @@ export class Play {
         return {
             module, story: this.sum, ifid: this.ifid, seed: this.seed,
             answers: this.answers.slice(0, this.here.answers), chain: this.here.chain,
-            snapshot: this.here.snapshot, log: this.log.kept(),
+            snapshot: this.here.snapshot, hasStates: true, log: this.log.kept(),
             box: this.lastRows, date: Date.now(),
         };
     }

@@ -17,6 +17,7 @@ import { sumOf } from "./sums.js";
  * @property {Answer[]} answers
  * @property {string} chain the sum of all text
  * @property {Uint8Array | null} snapshot
+ * @property {boolean} [hasStates] whether the snapshot has the states that the story's own UNDO goes back to
  * @property {any} log
  * @property {string[]} box
  * @property {number} date

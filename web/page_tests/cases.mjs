@@ -398,14 +398,36 @@ async function playFile(page) {
 async function badPlays(page) {
     await page.fresh();
     const play = { zkit: 1, ifid: "ZCODE-1-261127-15E0", name: "x", story: "", seed: "1", told: "", answers: [] };
+    const [spoilt, other, text] = ["it is damaged", "it was made by another version of this page", "not a story: it is a text file"];
     const bad = [
-        { answers: [-1] }, { answers: [{ restored: "%" }] }, { answers: [[]] }, { seed: "x" }, { name: "x".repeat(999) }, { zkit: 2 },
+        [{ answers: [-1] }, spoilt], [{ answers: [{ restored: "%" }] }, spoilt], [{ answers: [[]] }, spoilt],
+        [{ seed: "x" }, spoilt], [{ name: "x".repeat(999) }, spoilt], [{ zkit: 2 }, other], [{ zkit: undefined }, text],
+        [{ answers: Array(20001).fill("look") }, "it has more than 20,000 lines and keys"],
+        [{ answers: ["look", "x".repeat(256)] }, "it has a line of more than 255 characters"],
+        [{ answers: ["look\nlook"] }, "it has a line end inside a line"],
+        [{ answers: ["look\r"] }, "it has a line end inside a line"],
     ];
-    for (const [i, part] of bad.entries()) {
+    for (const [i, [part, words]] of bad.entries()) {
         await page.drop(Buffer.from(JSON.stringify({ ...play, ...part })), `bad${i}.json`);
-        await page.until((words) => document.getElementById("told").textContent === words,
-            `bad${i}.json: not a story: it is a text file`);
+        await page.until((wanted) => document.getElementById("told").textContent === wanted,
+            `bad${i}.json: ${words === text ? "" : "this play can't be shown: "}${words}${words === text ? "" : "."}`);
     }
+}
+
+/** A link to a play that is not shown has its words too, and the play that is on stays. */
+async function refusedLink(page) {
+    const play = { zkit: 1, ifid: "ZCODE-1-261127-15E0", name: "x", story: "", seed: "1", told: "", answers: ["x".repeat(256)] };
+    const hash = `#play=0${Buffer.from(JSON.stringify(play)).toString("base64url")}`;
+    const words = "The link: this play can't be shown: it has a line of more than 255 characters.";
+    await page.fresh(hash);
+    same(await page.told(), words);
+    await page.open(MENU);
+    await page.say("hello");
+    await page.keeps(1);
+    await page.run((it) => { location.hash = it; }, hash);
+    await page.until((it) => document.getElementById("told").textContent === it, words);
+    await page.say("roll");
+    same(await page.transcript(), native(["play", "--echo", MENU], "hello\nroll\n").text, "the transcript");
 }
 
 async function badLink(page) {
@@ -815,6 +837,7 @@ export const CASES = [
     ["back to a line, and to the end again", linesBackAndForth],
     ["a play as a file", playFile],
     ["a link that is cut off", badLink],
+    ["a link to a play that is not shown", refusedLink],
     ["plays that are none", badPlays],
     ["a box", box],
     ["a menu", menu],

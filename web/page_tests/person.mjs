@@ -1,7 +1,10 @@
 // What a person meets: where the focus is and what is typed then, what is seen of the newest turn, and what is spoken. All
 // is done by keys, the mouse and fingers of the browser.
 
-import { MENU, holds, native, same } from "./page.mjs";
+import { EXAMPLES, MENU, holds, join, native, readFileSync, same } from "./page.mjs";
+import { counting } from "./stories.mjs";
+
+const Z5 = join(EXAMPLES, "lighthouse.z5");
 
 const lastTyped = () => [...document.querySelectorAll("#scroller .typed")].pop()?.textContent.trimEnd() ?? "";
 const isOpen = () => document.querySelector("dialog[open]") !== null;
@@ -134,9 +137,123 @@ async function backInSight(page) {
     }
 }
 
+/** In the page: notes what the worker is asked for, the snapshots that it gives, and the parts that are drawn. */
+function watchInPage() {
+    window.seen = { calls: [], snapshots: 0, drawn: 0 };
+    const post = Worker.prototype.postMessage;
+    Worker.prototype.postMessage = function(message) {
+        window.seen.calls.push(message.call);
+        this.addEventListener("message", ({ data }) => {
+            window.seen.snapshots += data.number === message.number && data.result?.snapshot ? 1 : 0;
+        });
+        return post.apply(this, arguments);
+    };
+    new MutationObserver((changes) => {
+        window.seen.drawn += changes.reduce((sum, { addedNodes }) =>
+            sum + [...addedNodes].filter((it) => it.className === "turn").length, 0);
+    }).observe(document.getElementById("scroller"), { childList: true, subtree: true });
+}
+
+/** The play of the page as a file that is shared. */
+async function sharedFile(page) {
+    await page.lines();
+    const file = JSON.parse(readFileSync(await page.fileAfter(() => page.click("#play-file"))));
+    await page.leave();
+    return file;
+}
+
+/** Goes back to before a line of the list, by the mouse. */
+async function backTo(page, line) {
+    await page.lines();
+    await page.click(`#line-list li:nth-child(${line}) button`);
+    await page.until(() => !document.querySelector("dialog[open]"));
+    await page.rests();
+}
+
+/** A play of 1,000 lines is repeated without snapshots and drawings in between, and so in a moment. */
+async function repeatsAtOnce(page) {
+    const lines = Array.from({ length: 1000 }, (_, i) => ["look", "open bag", "north", "south", "inventory", "close bag"][i % 6]);
+    const text = (count) => native(["play", "--echo", Z5], lines.slice(0, count).map((it) => `${it}\n`).join("")).text;
+    await page.fresh();
+    await page.click("#example");
+    await page.rests();
+    const file = await sharedFile(page);
+    await page.run(watchInPage);
+    const began = Date.now();
+    await page.drop(Buffer.from(JSON.stringify({ ...file, answers: lines })), "long.play.json");
+    await page.until(() => document.getElementById("told").textContent.includes("shared play"));
+    await page.rests();
+    const took = Date.now() - began;
+    const seen = await page.run(() => window.seen);
+    same(seen.snapshots, 1, "the number of snapshots that were taken");
+    holds(seen.drawn <= 41, `${seen.drawn} parts were drawn`);
+    holds(await page.newestIsSeen(), "the newest turn is not seen");
+    same(await page.focus(), "line 0", "the focus and the caret");
+    same(await page.transcript(), text(1000), "the transcript");
+    await page.lines();
+    const again = Date.now();
+    await page.click("#line-list li:nth-child(501) button");
+    await page.until(() => !document.querySelector("dialog[open]"));
+    await page.rests();
+    const back = Date.now() - again;
+    same(await page.transcript(), text(500), "the transcript before line 501");
+    return `1000 lines in ${took} ms, back to line 501 in ${back} ms`;
+}
+
+/** Going back begins at the nearest snapshot, and the story's own UNDO goes as far as before. */
+async function goesFromNearest(page) {
+    await page.fresh();
+    await page.click("#example");
+    await page.rests();
+    await page.sayAll(["undo on", "north", "west", "look"]);
+    await page.run(watchInPage);
+    for (const line of [4, 3]) {
+        await backTo(page, line);
+        same(await page.focus(), "line 0", `the focus before line ${line}`);
+        holds(await page.newestIsSeen(), `the newest turn is not seen before line ${line}`);
+    }
+    holds(!(await page.run(() => window.seen.calls)).includes("open"), "the story was begun again");
+    const text = (...lines) => native(["play", "--echo", Z5], lines.map((it) => `${it}\n`).join("")).text;
+    await page.say("undo");
+    same(await page.transcript(), text("undo on", "north", "undo"), "the transcript after UNDO");
+    await page.keeps(3);
+    await page.reload();
+    await page.rests();
+    await page.say("undo");
+    same(await page.transcript(), text("undo on", "north", "undo", "undo"), "the transcript after a reload and UNDO");
+}
+
+/** A play that takes long to repeat says how far it is, and can be stopped; the lines after that can be gone to. */
+async function stopsRepeating(page) {
+    await page.fresh();
+    await page.drop(counting("Done.\n>"), "counts.z5");
+    await page.until(() => document.getElementById("title").textContent === "counts.z5");
+    await page.rests();
+    const file = await sharedFile(page);
+    const answers = Array.from({ length: 99 }, (_, i) => `line ${i}`);
+    await page.drop(Buffer.from(JSON.stringify({ ...file, answers })), "slow.play.json");
+    await page.until(() => /^Repeating the play: [1-9]\d* of 99\.$/.test(document.getElementById("running-words").textContent));
+    await page.click("#stop");
+    await page.until(() => !document.getElementById("ask").hidden && document.getElementById("running").hidden);
+    await page.rests();
+    same(await page.focus(), "line 0", "the focus and the caret after Stop");
+    await page.lines();
+    const [given, later] = await page.run(() => ["li:not(.later)", "li.later"].map((kind) =>
+        document.querySelectorAll(`#line-list ${kind}`).length));
+    same(given + later, 100, "the number of lines, with the end of the list");
+    holds(given > 0 && later > 1, `${given} lines and ${later} later ones`);
+    await page.leave();
+    await page.say("on");
+    same(await page.run(lastTyped), "on", "what was typed after Stop");
+    return `stopped after ${given} of 99`;
+}
+
 export const PERSON = [
     ["typing after a game was saved", typesAfterSaving],
     ["typing at once after a game was saved", typesAtOnce],
     ["typing after a window was left", typesAfterWindows],
     ["a reload and a new tab show the newest turn", backInSight],
+    ["a play that is repeated at once", repeatsAtOnce],
+    ["going back from the nearest snapshot", goesFromNearest],
+    ["a play that is stopped while it is repeated", stopsRepeating],
 ];

@@ -387,13 +387,15 @@ async function strangePlays(page) {
     ];
     for (const [i, part] of bad.entries()) {
         await page.drop(Buffer.from(JSON.stringify({ ...play0, ...part })), `bad${i}.json`);
-        await page.until((words) => document.getElementById("told").textContent === words,
-            `bad${i}.json: not a story: it is a text file`);
+        const words = part.zkit ? "it was made by another version of this page" : "it is damaged";
+        await page.until((it) => document.getElementById("told").textContent === it,
+            `bad${i}.json: this play can't be shown: ${words}.`);
     }
     const answers = ["look", 0x10ffff, 0, { saved: true }, { restored: null }, { restored: "AA==" }, { undo: true }, { fresh: true }];
-    const good = { name: "y".repeat(300), seed: "1".repeat(20), answers };
+    const longest = Array.from({ length: 20000 - answers.length }, (_, i) => i ? "x" : "x".repeat(255));
+    const good = { name: "y".repeat(300), seed: "1".repeat(20), answers: [...answers, ...longest] };
     await page.drop(Buffer.from(JSON.stringify({ ...play0, ...good })), "good.json");
-    await page.until(() => document.getElementById("invitation").textContent.includes("yyy, 4 lines long"));
+    await page.until(() => document.getElementById("invitation").textContent.includes("yyy, 19996 lines long"));
 }
 
 /** A seed is a number up to 2^64 - 1; another text gives the usual one. */
