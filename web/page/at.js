@@ -103,6 +103,14 @@ export function tell(words, isAlarm = false) {
 }
 
 /**
+ * Says something to a screen reader alone, of what is seen elsewhere.
+ * @param {string[]} words
+ */
+export function speak(words) {
+    at("spoken").textContent = words.join(" ");
+}
+
+/**
  * Gives the reader a file.
  * @param {BlobPart} content
  * @param {string} name

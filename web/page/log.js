@@ -17,6 +17,9 @@ const BLOCK = 6000;
 /** So many blocks stand in the page, and so many more come at a time. */
 const SHOWN = 40;
 
+/** After so many milliseconds the text of a story that still runs is drawn. */
+const SOON = 100;
+
 /** So many characters are kept for a reload at most. */
 const KEPT = 1000000;
 
@@ -32,14 +35,16 @@ function endOfPart(text, most) {
 }
 
 /**
- * The parts of a line that stand in one style each. The line begins at an index of its text.
+ * The parts of a line that stand in one style each. The line begins at an index of its text, of which the first
+ * characters are left out.
  * @param {string} line
  * @param {number} begin
  * @param {Range[]} ranges
+ * @param {number} drawn
  */
-function styled(line, begin, ranges) {
+function styled(line, begin, ranges, drawn) {
     const parts = [];
-    let done = 0;
+    let done = Math.min(line.length, Math.max(0, drawn - begin));
     for (const { from, to, styles } of ranges) {
         const start = Math.max(from - begin, done);
         const end = Math.min(to - begin, line.length);
@@ -76,7 +81,7 @@ export class Log {
         /** The part of a line after which the story reads. */
         this.held = "";
         this.width = new Width();
-        /** The first block that stands in the page, and the first in the part for screen readers. */
+        /** The first block that stands in the page, and the first in the part whose additions are spoken. */
         this.first = 0;
         this.firstNew = 0;
         /** The block that the newest answer began. */
@@ -271,59 +276,75 @@ export class Log {
         return told.map((piece) => piece.text).join("") + this.held;
     }
 
-    /** Draws soon what has changed. */
+    /** Draws soon what has changed, if the story runs so long. */
     due() {
         if (this.isDue || this.isStill)
             return;
         this.isDue = true;
         setTimeout(() => {
-            this.isDue = false;
-            if (!this.isStill)
-                this.draw();
-        }, 0);
+            if (this.isDue && !this.isStill)
+                this.draw(false);
+        }, SOON);
     }
 
-    /** Draws the newest blocks that do not stand in the page yet, and the last one anew. */
-    draw() {
-        if (this.isStill) {
-            this.isStill = false;
+    /**
+     * Draws what does not stand in the page yet. What stands there is not touched, so that all is spoken once.
+     * @param {boolean} [isWhole] whether that is all; of a story that runs, its last line may go on
+     */
+    draw(isWhole = true) {
+        this.isDue = false;
+        const last = this.firstNew + log.children.length - 1;
+        if (this.isStill || this.blocks.length - last > 2 * SHOWN) {
             this.showEnd();
             return;
         }
-        const isLow = scroller.scrollHeight - scroller.scrollTop - scroller.clientHeight < 80;
-        const shown = log.children.length;
-        const from = Math.max(this.firstNew, this.firstNew + shown - 1);
-        if (this.blocks.length - from > 2 * SHOWN) {
-            this.showEnd();
-            return;
-        }
-        if (shown > 0)
-            this.drawBlock(from, /** @type {HTMLElement} */ (log.lastElementChild));
-        for (let i = this.firstNew + shown; i < this.blocks.length; i++)
-            log.append(this.drawBlock(i, made("div", "turn")));
-        if (isLow || this.turn >= from || log.children.length > 2 * SHOWN)
+        const isLow = this.bottom() - scroller.scrollTop < 80;
+        if (last >= this.first)
+            this.drawBlock(last, /** @type {HTMLElement} */ (this.elementOf(last)), isWhole);
+        for (let i = last + 1; i < this.blocks.length; i++)
+            log.append(this.drawBlock(i, made("div", "turn"), isWhole));
+        if (isLow || this.turn >= last || log.children.length > 2 * SHOWN)
             this.trim();
         this.goToTurn();
     }
 
-    /** Shows the newest blocks alone. */
+    /** Shows the newest blocks alone, which are not new: nothing of them is spoken. */
     showEnd() {
-        this.first = this.firstNew = Math.max(0, this.blocks.length - SHOWN);
-        older.replaceChildren();
+        this.isStill = false;
+        this.first = Math.max(0, this.blocks.length - SHOWN);
+        this.firstNew = this.blocks.length;
         log.replaceChildren();
-        for (let i = this.firstNew; i < this.blocks.length; i++)
-            log.append(this.drawBlock(i, made("div", "turn")));
+        older.replaceChildren(...this.drawn(this.first, this.firstNew));
         this.goToTurn();
     }
 
     /** Takes out what is no longer looked at. */
     trim() {
-        older.replaceChildren();
-        while (log.children.length > SHOWN && log.firstElementChild) {
-            log.firstElementChild.remove();
-            this.firstNew++;
+        while (older.children.length + log.children.length > SHOWN) {
+            const it = older.firstElementChild || log.firstElementChild;
+            if (it && it.parentElement === log)
+                this.firstNew++;
+            this.first++;
+            it?.remove();
         }
-        this.first = this.firstNew;
+    }
+
+    /**
+     * The element of a block; null where it does not stand in the page.
+     * @param {number} i
+     */
+    elementOf(i) {
+        const it = i < this.firstNew ? older.children[i - this.first] : log.children[i - this.firstNew];
+        return /** @type {HTMLElement | null} */ (it || null);
+    }
+
+    /**
+     * New elements of blocks.
+     * @param {number} from
+     * @param {number} to
+     */
+    drawn(from, to) {
+        return this.blocks.slice(from, to).map((_, i) => this.drawBlock(from + i, made("div", "turn")));
     }
 
     /** How far the text can be scrolled. */
@@ -333,7 +354,7 @@ export class Log {
 
     /** Scrolls so that the newest answer's text is read from its start. */
     goToTurn() {
-        const element = /** @type {HTMLElement | null} */ (log.children[this.turn - this.firstNew] || null);
+        const element = this.elementOf(this.turn);
         const turn = element ? element.offsetTop - scroller.offsetTop - 16 : Infinity;
         scroller.scrollTop = Math.min(this.bottom(), turn);
         this.top = scroller.scrollTop;
@@ -356,43 +377,79 @@ export class Log {
         const from = Math.max(0, this.first - SHOWN);
         const height = scroller.scrollHeight;
         const top = scroller.scrollTop;
-        const back = [];
-        for (let i = from; i < this.first; i++)
-            back.push(this.drawBlock(i, made("div", "turn")));
-        older.prepend(...back);
+        older.prepend(...this.drawn(from, this.first));
         this.first = from;
         scroller.scrollTop = top + scroller.scrollHeight - height;
     }
 
     /**
+     * Draws what an element does not have yet of its block.
      * @param {number} i
      * @param {HTMLElement} element
+     * @param {boolean} [isWhole]
      */
-    drawBlock(i, element) {
-        const pieces = this.blocks[i].map((piece) => this.drawPiece(piece));
-        element.replaceChildren(...pieces);
+    drawBlock(i, element, isWhole = true) {
+        this.blocks[i].forEach((piece, place, block) => {
+            const isOpen = !isWhole && i === this.blocks.length - 1 && place === block.length - 1;
+            const old = /** @type {HTMLElement | undefined} */ (element.children[place]);
+            const span = old || made("span", piece.kind);
+            if (piece.kind === "text")
+                this.drawText(span, piece, isOpen ? piece.text.lastIndexOf("\n") : piece.text.length);
+            else if (!old)
+                drawOther(span, piece);
+            if (!old)
+                element.append(span);
+        });
         return element;
     }
 
-    /** @param {Piece} piece */
-    drawPiece({ kind, text, ranges = [] }) {
-        const element = made("span", kind);
-        if (kind !== "text") {
-            element.textContent = text;
-            return element;
-        }
-        const lines = text.split("\n");
+    /**
+     * Draws what an element does not have yet of a text, up to an index of it.
+     * @param {HTMLElement} span
+     * @param {Piece} piece
+     * @param {number} end
+     */
+    drawText(span, { text, ranges = [] }, end) {
+        // (what was drawn has become the prompt)
+        if ((span.textContent || "").length > text.length)
+            span.replaceChildren();
+        const drawn = (span.textContent || "").length;
+        const lines = text.slice(0, Math.max(0, end)).split("\n");
+        const parts = document.createDocumentFragment();
         let begin = 0;
         lines.forEach((line, i) => {
-            element.append(...styled(line, begin, ranges));
+            parts.append(...styled(line, begin, ranges, drawn));
             begin += line.length + 1;
-            const inLine = ranges.filter(({ from, to }) => from < begin && to > begin - 1);
-            const isFixed = inLine.some(({ styles }) => styles.includes("fixed"));
-            const isSoft = !isFixed && i < lines.length - 1 && this.width.joins(line, lines[i + 1]);
-            if (i < lines.length - 1)
-                element.append(isSoft ? made("span", "soft", "\n") : "\n");
+            if (i < lines.length - 1 && begin > drawn)
+                parts.append(this.lineEnd(line, lines[i + 1], begin, ranges));
         });
-        element.normalize();
-        return element;
+        parts.normalize();
+        span.append(parts);
+    }
+
+    /**
+     * The end of a line, before the next one: one that the story has made early is drawn as a space.
+     * @param {string} line
+     * @param {string} next
+     * @param {number} end where the next line begins in its text
+     * @param {Range[]} ranges
+     */
+    lineEnd(line, next, end, ranges) {
+        const inLine = ranges.filter(({ from, to }) => from < end && to > end - line.length - 2);
+        const isFixed = inLine.some(({ styles }) => styles.includes("fixed"));
+        return !isFixed && this.width.joins(line, next) ? made("span", "soft", "\n") : "\n";
+    }
+}
+
+/**
+ * Draws a piece that is no text. A line that was typed is a heading, by which a screen reader moves from turn to turn.
+ * @param {HTMLElement} span
+ * @param {Piece} piece
+ */
+function drawOther(span, { kind, text }) {
+    span.textContent = text;
+    if (kind === "typed" && text.trim()) {
+        span.setAttribute("role", "heading");
+        span.setAttribute("aria-level", "2");
     }
 }

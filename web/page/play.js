@@ -1,9 +1,9 @@
 // A play: the story that runs, what was answered, and the ways back. What is answered is recorded, since the same
 // answers give the same play: that is what a link has, and how the reader goes back to any line.
 
-import { agreed, at, tell, toBase64 } from "./at.js";
+import { agreed, at, speak, tell, toBase64 } from "./at.js";
 import { isRead } from "./answers.js";
-import { hideOver, showOver, showPaused, showRunning } from "./bars.js";
+import { hideOver, showOver, showPaused, showRunning, wordsOfEnd } from "./bars.js";
 import { Machine, Trapped } from "./machine.js";
 import { boxText } from "./screen.js";
 import { sound } from "./sound.js";
@@ -146,7 +146,7 @@ export class Play {
     /** @param {boolean} isBusy */
     beBusy(isBusy) {
         this.isBusy = isBusy;
-        at("log").setAttribute("aria-busy", String(isBusy));
+        at("play").dataset.busy = String(isBusy);
     }
 
     /**
@@ -541,27 +541,35 @@ export class Play {
     settle(standing) {
         this.standing = standing;
         this.beBusy(false);
-        this.screen.show(standing.rows, standing.status);
+        const news = this.screen.show(standing.rows, standing.status);
         if (this.bleep)
             sound(this.bleep);
         this.bleep = null;
         const { awaits } = standing;
-        if (awaits === "line" || awaits === "character") {
+        const reads = awaits === "line" || awaits === "character";
+        if (reads || awaits === "stopped")
             this.reach(standing);
-            this.log.draw();
-            this.input.await(awaits, this.log.held, standing.longest);
-            this.reader.changed();
-            return;
-        }
-        this.input.hide();
         this.log.draw();
-        if (awaits === "stopped") {
-            this.reach(standing);
-            showOver(standing, this.here !== null);
-        } else {
-            showPaused(PAUSED[awaits] || "You have stopped the story.", this.here !== null);
-        }
+        if (reads)
+            this.input.await(awaits, this.log.held, standing.longest);
+        speak(reads ? news : [...news, this.showStop(standing)]);
         this.reader.changed();
+    }
+
+    /**
+     * Shows that the story does not go on by itself, and answers why.
+     * @param {Standing} standing
+     */
+    showStop(standing) {
+        this.input.hide();
+        if (standing.awaits === "stopped") {
+            const words = wordsOfEnd(standing);
+            showOver(words, this.here !== null);
+            return words;
+        }
+        const words = PAUSED[standing.awaits] || "You have stopped the story.";
+        showPaused(words, this.here !== null);
+        return words;
     }
 
     /** Goes back to before the last answer: by the story's own state, or else by a snapshot of a read before. */

@@ -32,7 +32,7 @@ async function starts(page) {
     await page.ready();
     const ready = Date.now() - began;
     await page.click("#example");
-    await page.until(() => document.getElementById("log").textContent.includes("Jetty") && !document.getElementById("ask").hidden);
+    await page.until(() => document.getElementById("scroller").textContent.includes("Jetty") && !document.getElementById("ask").hidden);
     return `ready after ${ready} ms, the first room after ${Date.now() - began} ms`;
 }
 
@@ -186,11 +186,11 @@ async function reload(page) {
     await page.fresh();
     await page.open(MENU);
     await page.sayAll(["roll", "hello", "roll"]);
-    const before = await page.text("log");
+    const before = await page.text("scroller");
     await page.keeps(3);
     await page.reload();
     await page.rests();
-    same(await page.text("log"), before, "the log after a reload");
+    same(await page.text("scroller"), before, "the log after a reload");
     same(await page.text("title"), "menu.z5");
     await page.say("roll");
     same(await page.transcript(), native(["play", "--echo", MENU], "roll\nhello\nroll\nroll\n").text, "the transcript");
@@ -216,7 +216,7 @@ async function seeded(page, seed) {
     await page.until(() => document.getElementById("asking").open || !document.querySelector("dialog[open]"));
     if (await page.isShown("asking"))
         await page.click("#asking-yes");
-    await page.until(() => !document.querySelector("dialog[open]") && !document.getElementById("log").textContent.includes(">roll"));
+    await page.until(() => !document.querySelector("dialog[open]") && !document.getElementById("scroller").textContent.includes(">roll"));
     await page.rests();
 }
 
@@ -441,7 +441,7 @@ async function badLink(page) {
     await page.ready();
     same(await page.told(), words);
     same(await page.text("title"), "menu.z5", "the story after a link that is cut off");
-    holds((await page.text("log")).includes(">hello"), await page.text("log"));
+    holds((await page.text("scroller")).includes(">hello"), await page.text("scroller"));
 }
 
 async function box(page) {
@@ -463,7 +463,7 @@ async function menu(page) {
     await page.browser.press("n");
     await page.until(() => document.getElementById("upper").textContent.includes("> Who made it"));
     await page.browser.press("Enter");
-    await page.until(() => document.getElementById("log").textContent.includes("A test did."));
+    await page.until(() => document.getElementById("scroller").textContent.includes("A test did."));
     // keys that the browser takes for itself are not the story's
     for (const key of [{ ctrlKey: true }, { metaKey: true }, { altKey: true }, { isComposing: true }])
         await page.run((it) => !document.body.dispatchEvent(new KeyboardEvent("keydown", { key: "q", bubbles: true, ...it })), key);
@@ -481,7 +481,7 @@ async function blorbFile(page) {
     await page.drop(file, "lighthouse.zblorb");
     await page.until(() => document.getElementById("title").textContent === "lighthouse.zblorb");
     await page.rests();
-    holds((await page.text("log")).includes("Jetty"), "the story does not begin");
+    holds((await page.text("scroller")).includes("Jetty"), "the story does not begin");
     await page.drop(file.subarray(0, 9000), "cut.zblorb");
     await page.until(() => document.getElementById("told").textContent.includes("cut off"));
     await page.say("look");
@@ -517,7 +517,7 @@ async function withoutEnd(page) {
     await page.say("print");
     await page.until(() => document.getElementById("running-words").textContent.includes("printed a lot"));
     await page.click("#go-on");
-    await page.until(() => document.getElementById("log").getAttribute("aria-busy") === "false");
+    await page.until(() => document.getElementById("play").dataset.busy === "false");
     await page.until(() => document.getElementById("running-words").textContent.includes("printed a lot"));
     const blocks = await page.run(() => document.querySelectorAll(".turn").length);
     holds(blocks <= 81, `${blocks} blocks stand in the page`);
@@ -552,7 +552,7 @@ async function undo(page, version) {
     await page.sayAll(["open bag", "north"]);
     await page.click("#undo");
     await page.rests();
-    await page.until(() => !document.getElementById("log").textContent.includes("Shore Path"));
+    await page.until(() => !document.getElementById("scroller").textContent.includes("Shore Path"));
     await page.say("look");
     same(await page.transcript(), native(["play", "--echo", z(version)], "open bag\nlook\n").text, "the transcript");
 }
@@ -568,7 +568,7 @@ async function undoAfterReload(page) {
     await page.reload();
     await page.rests();
     await page.click("#undo");
-    await page.until(() => document.querySelectorAll("#log .typed").length === 1);
+    await page.until(() => document.querySelectorAll("#scroller .typed").length === 1);
     await page.rests();
     await page.say("roll");
     same(await page.transcript(), native(["play", "--echo", MENU], "roll\nroll\n").text, "the transcript");
@@ -579,7 +579,7 @@ async function undoOfStory(page) {
     await page.open(z(5));
     await page.sayAll(["undo on", "north"]);
     await page.click("#undo");
-    await page.until(() => document.querySelectorAll("#log .turn").length > 3);
+    await page.until(() => document.querySelectorAll("#scroller .turn").length > 3);
     await page.rests();
     await page.say("look");
     const text = await page.transcript();
@@ -611,7 +611,7 @@ async function settings(page) {
     }, id, value);
     const looks = () => page.run(() => {
         const { backgroundColor } = getComputedStyle(document.body);
-        return `${backgroundColor} ${getComputedStyle(document.getElementById("log")).fontSize}`;
+        return `${backgroundColor} ${getComputedStyle(document.getElementById("scroller")).fontSize}`;
     });
     const before = await looks();
     await choose("theme", "dark");
@@ -740,17 +740,17 @@ async function keyboard(page) {
 async function reflow(page) {
     await page.fresh();
     await page.open(z(5));
-    const joins = () => page.run(() => [...document.querySelectorAll("#log .soft")].length);
+    const joins = () => page.run(() => [...document.querySelectorAll("#scroller .soft")].length);
     const count = await joins();
     holds(count >= 5, `${count} lines were joined`);
-    const text = await page.run(() => document.getElementById("log").innerText);
+    const text = await page.run(() => document.getElementById("scroller").innerText);
     holds(text.includes("Your boat tugs at its rope.") && text.includes("HELP gives help.\n"), text);
     await page.say("open bag");
-    const before = [await joins(), await page.text("prompt"), await page.text("log")];
+    const before = [await joins(), await page.text("prompt"), await page.text("scroller")];
     await page.keeps(1);
     await page.reload();
     await page.rests();
-    const after = [await joins(), await page.text("prompt"), await page.text("log")];
+    const after = [await joins(), await page.text("prompt"), await page.text("scroller")];
     same(after.join(), before.join(), "the joined lines, the prompt and the text after a reload");
     await page.open(MENU);
     await page.say("hello");
@@ -777,7 +777,7 @@ async function wraps(page) {
         await page.drop(telling(`${"w".repeat(width)}\n\n${parts.join("")}>`), `wide${width}.z5`);
         await page.until((name) => document.getElementById("title").textContent === name, `wide${width}.z5`);
         await page.rests();
-        const softs = await page.run(() => [...document.querySelectorAll("#log .soft")].map((it) => {
+        const softs = await page.run(() => [...document.querySelectorAll("#scroller .soft")].map((it) => {
             const before = it.previousSibling.textContent.split("\n").pop();
             return `${before}+${it.nextSibling.textContent.split("\n")[0]}`;
         }));

@@ -52,6 +52,33 @@ function newestIsSeen() {
     return scroller.clientHeight > 0 && top >= around.top && bottom <= around.bottom && isLow;
 }
 
+/**
+ * In the page: notes what a screen reader speaks from now on: what is added to a live region or changed in it, as often as
+ * that happens.
+ */
+function hearInPage() {
+    window.spoken = [];
+    const seen = new WeakSet();
+    const regionOf = (node) => (node.nodeType === Node.TEXT_NODE ? node.parentElement : node)?.closest("[aria-live], [role=log], [role=status]");
+    const speak = (region, text) => {
+        if (region && region.getClientRects().length && !region.closest("[aria-busy=true]") && text)
+            window.spoken.push([region.id, text]);
+    };
+    new MutationObserver((changes) => {
+        for (const { target, addedNodes } of changes) {
+            if (target.nodeType === Node.TEXT_NODE)
+                speak(regionOf(target), target.data);
+            // (what was added with its parent is spoken with it)
+            for (const node of addedNodes)
+                if (target.isConnected && !seen.has(target))
+                    speak(regionOf(target), node.textContent);
+            for (const node of addedNodes)
+                for (const it of node.querySelectorAll?.("*") ?? [])
+                    seen.add(it), setTimeout(() => seen.delete(it), 0);
+        }
+    }).observe(document.body, { childList: true, characterData: true, subtree: true });
+}
+
 /** In the page: where an element may be clicked; null where it is not seen, or something lies over it. */
 function placeInPage(selector) {
     const it = document.querySelector(selector);
@@ -150,6 +177,18 @@ export class Page {
         return this.run(newestIsSeen);
     }
 
+    /** Notes from now on what a screen reader speaks. */
+    hear() {
+        return this.run(hearInPage);
+    }
+
+    /** What was spoken since this was asked before: the texts of each live region. */
+    async heard() {
+        const all = await this.run(() => window.spoken.splice(0));
+        const of = (id) => all.filter(([region]) => region === id).map(([, text]) => text);
+        return { log: of("log").join(""), said: of("spoken").join("|"), told: of("told").join("|") };
+    }
+
     /** What has the focus, and where the caret is in it. */
     focus() {
         return this.run(() => {
@@ -187,7 +226,7 @@ export class Page {
 
     /** Until the story awaits a line or a key, or has ended. */
     rests() {
-        return this.until(() => document.getElementById("log").getAttribute("aria-busy") === "false"
+        return this.until(() => document.getElementById("play").dataset.busy === "false"
             && ["ask", "over", "running"].some((id) => !document.getElementById(id).hidden)
             || document.querySelector("dialog[open]") !== null);
     }

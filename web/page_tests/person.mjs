@@ -248,6 +248,109 @@ async function stopsRepeating(page) {
     return `stopped after ${given} of 99`;
 }
 
+/** Each turn is spoken once, and all of it; the status line where it changes, and each line is a heading. */
+async function hearsTurns(page) {
+    const lines = ["open bag", "inventory", "north", "look", "west", "examine me", "east"];
+    const place = async () => (await page.text("upper")).trim().split(/ {3,}/)[0];
+    await page.fresh();
+    await page.hear();
+    await page.click("#example");
+    await page.rests();
+    let text = native(["play", "--echo", Z5]).text;
+    const first = await page.heard();
+    same(first.log, text.slice(0, -1), "what is spoken of the beginning");
+    same(first.said, "Jetty. Score: 0.", "what is spoken of the status line at the beginning");
+    let before = await place();
+    for (const [i, line] of lines.entries()) {
+        await page.say(line);
+        const here = await place();
+        const now = native(["play", "--echo", Z5], lines.slice(0, i + 1).map((it) => `${it}\n`).join("")).text;
+        const { log, said } = await page.heard();
+        same(log, `>${now.slice(text.length, -1)}`, `what is spoken of '${line}'`);
+        same(said, here === before ? "" : `${here}.`, `what is spoken of the status line after '${line}'`);
+        [text, before] = [now, here];
+    }
+    holds(before !== "Jetty", "the place has not changed");
+    const headings = await page.run(() => [...document.querySelectorAll("#scroller [role=heading]")].map((it) => it.textContent.trim()));
+    same(headings.join(), lines.join(), "the headings of the text");
+}
+
+/** What is not new is not spoken again: not after a reload, not where the reader goes back, not where a play is shown. */
+async function hearsNothingAgain(page) {
+    await page.fresh();
+    await page.open(MENU);
+    await page.sayAll(["hello", "roll", "hello"]);
+    const file = await sharedFile(page);
+    await page.hear();
+    await page.click("#undo");
+    await page.until(() => document.getElementById("told").textContent !== "");
+    await page.rests();
+    let heard = await page.heard();
+    same(`${heard.log}|${heard.told}`, "|Went back one step.", "what is spoken of Undo");
+    await page.say("hello");
+    same((await page.heard()).log, ">hello\nNothing happens.\n\n", "what is spoken after Undo");
+    await backTo(page, 2);
+    same((await page.heard()).log, "", "what is spoken where the reader goes back");
+    await page.drop(Buffer.from(JSON.stringify(file)), "a.play.json");
+    await page.until(() => document.getElementById("told").textContent.includes("letter by letter"));
+    await page.rests();
+    heard = await page.heard();
+    same(heard.log, "", "what is spoken of a play that is shown");
+    holds(heard.told.split("|").length === 1, `this is told of a play that is shown: ${heard.told}`);
+    await page.keeps(3);
+    await page.reload();
+    await page.rests();
+    await page.hear();
+    await page.say("hello");
+    same((await page.heard()).log, ">hello\nNothing happens.\n\n", "what is spoken after a reload");
+    holds((await page.run(() => document.querySelectorAll("#scroller .typed").length)) === 4, "older lines are gone from the page");
+}
+
+/** The end, a fault, and why a story has paused are spoken, once each. */
+async function hearsEnds(page) {
+    await page.fresh();
+    await page.open(MENU);
+    await page.hear();
+    await page.say("quit");
+    same((await page.heard()).said, "The story has ended.", "what is spoken of the end");
+    same(await page.text("over-words"), "The story has ended.");
+    await page.click("#over-back");
+    await page.rests();
+    await page.heard();
+    await page.say("break");
+    const fault = await page.text("over-words");
+    holds(fault.startsWith("The story has stopped: "), fault);
+    same((await page.heard()).said, fault, "what is spoken of a fault");
+    await page.click("#over-back");
+    await page.rests();
+    await page.heard();
+    await page.say("print");
+    await page.until(() => document.getElementById("running-words").textContent.includes("printed a lot"));
+    same((await page.heard()).said, "The story has printed a lot without asking for input.", "what is spoken of a pause");
+    await page.click("#step-back");
+    await page.rests();
+    await page.send("turn");
+    await page.shown("stop");
+    await page.heard();
+    await page.click("#stop");
+    await page.until(() => !document.getElementById("go-on").hidden);
+    same((await page.heard()).said, "You have stopped the story.", "what is spoken of a stop");
+}
+
+/** Text that comes while the story still runs is shown and spoken as it comes, and none of it twice. */
+async function hearsParts(page) {
+    await page.fresh();
+    await page.hear();
+    await page.drop(counting("Done.\nNow what?\n>", "First.\nWait"), "parts.z5");
+    await page.until(() => document.getElementById("scroller").textContent.includes("First."));
+    const first = (await page.heard()).log;
+    same(first, "First.", "what is spoken while the story runs");
+    await page.rests();
+    same(first + (await page.heard()).log, "First.\nWaitDone.\nNow what?\n", "what is spoken in all");
+    await page.say("go");
+    same((await page.heard()).log, ">go\nFirst.\nWaitDone.\nNow what?\n", "what is spoken of the next turn");
+}
+
 export const PERSON = [
     ["typing after a game was saved", typesAfterSaving],
     ["typing at once after a game was saved", typesAtOnce],
@@ -256,4 +359,8 @@ export const PERSON = [
     ["a play that is repeated at once", repeatsAtOnce],
     ["going back from the nearest snapshot", goesFromNearest],
     ["a play that is stopped while it is repeated", stopsRepeating],
+    ["each turn is spoken once", hearsTurns],
+    ["nothing is spoken again", hearsNothingAgain],
+    ["ends and pauses are spoken", hearsEnds],
+    ["parts of a turn are spoken as they come", hearsParts],
 ];

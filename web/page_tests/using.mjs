@@ -7,7 +7,7 @@ import { asking, counting, repeating, restoring, styled, telling, tellingStatus 
 
 const Z5 = join(EXAMPLES, "lighthouse.z5");
 
-const typedLines = () => [...document.querySelectorAll("#log .typed")].map((it) => it.textContent.trimEnd()).join();
+const typedLines = () => [...document.querySelectorAll("#scroller .typed")].map((it) => it.textContent.trimEnd()).join();
 const lineNow = () => document.getElementById("line").value;
 
 /** Drops a story, and waits for its first read. */
@@ -24,7 +24,7 @@ async function typedAhead(page) {
     const lines = ["one", "two", "two", "three", "four"];
     for (const line of lines)
         await page.send(line);
-    await page.until((wanted) => [...document.querySelectorAll("#log .typed")].length === wanted, lines.length);
+    await page.until((wanted) => [...document.querySelectorAll("#scroller .typed")].length === wanted, lines.length);
     await page.rests();
     same(await page.run(typedLines), lines.join(), "the lines that were typed ahead");
 }
@@ -66,7 +66,7 @@ async function keysByButtons(page) {
     await page.browser.press("n");
     await page.rests();
     await page.click("#enter");
-    await page.until(() => document.getElementById("log").textContent.includes("A test did."));
+    await page.until(() => document.getElementById("scroller").textContent.includes("A test did."));
     await page.rests();
     await page.browser.press("q");
     await page.until(() => document.getElementById("asked").textContent !== "Press a key");
@@ -103,8 +103,8 @@ async function undoFar(page) {
     await page.sayAll(Array.from({ length: 35 }, (_, i) => i % 5 ? "roll" : "hello"));
     for (let left = 34; left > 0; left--) {
         await page.click("#undo");
-        await page.until((count) => document.getElementById("log").getAttribute("aria-busy") === "false"
-            && document.querySelectorAll("#log .typed").length === count, left);
+        await page.until((count) => document.getElementById("play").dataset.busy === "false"
+            && document.querySelectorAll("#scroller .typed").length === count, left);
     }
     same(await page.transcript(), native(["play", "--echo", MENU], "hello\n").text, "the transcript");
     await page.open(Z5);
@@ -170,14 +170,14 @@ async function restoresFirst(page) {
         await page.shown("restoring");
         await page.click("#restore-none");
     }
-    await page.until(() => document.getElementById("log").textContent.includes("Begun."));
+    await page.until(() => document.getElementById("scroller").textContent.includes("Begun."));
     await page.rests();
     same(await page.run(() => document.querySelector("dialog[open]")?.id ?? ""), "", "the window at the first read");
     await page.sayAll(["one", "two"]);
     same(await page.transcript(), wanted("one\ntwo\n"), "the transcript");
     await page.lines();
     await page.click("#line-list li:last-child button");
-    await page.until(() => document.querySelectorAll("#log .typed").length === 1);
+    await page.until(() => document.querySelectorAll("#scroller .typed").length === 1);
     await page.rests();
     same(await page.run(() => document.querySelector("dialog[open]")?.id ?? ""), "", "the window where a line is gone to");
     same(await page.transcript(), wanted("one\n"), "the transcript before the second line");
@@ -191,7 +191,7 @@ async function leftQuestion(page) {
     await page.shown("saving");
     await page.drop(readFileSync(MENU), "menu.z5");
     await page.until(() => document.getElementById("title").textContent === "menu.z5");
-    await page.until(() => document.getElementById("log").textContent.includes("A hall."));
+    await page.until(() => document.getElementById("scroller").textContent.includes("A hall."));
     await page.leave();
     await page.rests();
     await page.say("roll");
@@ -203,16 +203,16 @@ async function longLines(page) {
     await page.fresh();
     const text = `${"x".repeat(7000)}\nsecond\nthird\n${"y".repeat(3000)}\n${"z".repeat(5000)}\nlast\n`;
     await play(page, telling(`${text}>`), "lines.z5");
-    const parts = await page.run(() => [...document.querySelectorAll("#log .turn span.text")].map((it) => it.textContent));
+    const parts = await page.run(() => [...document.querySelectorAll("#scroller .turn span.text")].map((it) => it.textContent));
     same(parts.join(""), text, "the text");
     holds(parts.length > 1 && parts.every((part) => part.endsWith("\n")), `${parts.map((part) => part.slice(-9)).join("|")}`);
 }
 
 /** Text has its styles, beside others in a line too, and what comes after an erasure stands in a part of its own. */
 async function styles(page) {
-    const parts = () => [...document.querySelectorAll("#log .text")].map((text) => [...text.childNodes].map((node) =>
+    const parts = () => [...document.querySelectorAll("#scroller .text")].map((text) => [...text.childNodes].map((node) =>
         node.nodeType === Node.TEXT_NODE ? node.textContent : `${node.className}:${node.textContent}`).join("|")).join("/");
-    const looks = () => ["bold", "italic"].map((style) => getComputedStyle(document.querySelector(`#log .${style}`)))
+    const looks = () => ["bold", "italic"].map((style) => getComputedStyle(document.querySelector(`#scroller .${style}`)))
         .map((look) => `${look.fontWeight} ${look.fontStyle}`).join();
     await page.fresh();
     await play(page, styled(), "styled.z5");
@@ -231,7 +231,7 @@ async function startOfAnswer(page) {
     const [top, bottom, line, left] = await page.run(() => {
         const scroller = document.getElementById("scroller");
         const around = scroller.getBoundingClientRect();
-        const typed = document.querySelector("#log .typed").getBoundingClientRect();
+        const typed = document.querySelector("#scroller .typed").getBoundingClientRect();
         return [around.top, around.bottom, typed.top, scroller.scrollHeight - scroller.clientHeight - scroller.scrollTop];
     });
     holds(line >= top && line < top + (bottom - top) / 4, `the line is at ${line} between ${top} and ${bottom}`);
@@ -254,7 +254,7 @@ async function draggedFile(page) {
 async function longRun(page) {
     await page.fresh();
     await play(page, counting("Done.\n>"), "counts.z5");
-    holds((await page.text("log")).includes("Done."), await page.text("log"));
+    holds((await page.text("scroller")).includes("Done."), await page.text("scroller"));
 }
 
 /** Where a story was played before, the reader goes on or starts over. */
@@ -341,7 +341,7 @@ async function ownPlayInIt(page) {
     await page.until(() => !document.querySelector("dialog[open]"));
     same(await page.run(typedLines), "roll", "the lines of the play that was kept");
     await give(["roll", "hello"]);
-    await page.until(() => document.querySelectorAll("#log .typed").length === 2);
+    await page.until(() => document.querySelectorAll("#scroller .typed").length === 2);
     await page.rests();
     same(await page.run(typedLines), "roll,hello", "the lines of the play that goes on from there");
 }
@@ -360,7 +360,7 @@ async function longestLink(page) {
         if (!isOffered)
             await page.click("#asking-yes");
         await page.until((lines) => document.getElementById("told").textContent.includes("not the same")
-            && [...document.querySelectorAll("#log .typed")].pop()?.textContent === `${lines.pop()}\n`, answers);
+            && [...document.querySelectorAll("#scroller .typed")].pop()?.textContent === `${lines.pop()}\n`, answers);
         await page.lines();
         await page.until(() => document.querySelector("#lines[open] #line-list li"));
         const isShown = await page.until(() => document.getElementById("copy-link").onclick
@@ -411,7 +411,7 @@ async function seeds(page) {
         await page.until(() => document.getElementById("asking").open || !document.querySelector("dialog[open]"));
         if (await page.isShown("asking"))
             await page.click("#asking-yes");
-        await page.until(() => !document.querySelector("#log .typed"));
+        await page.until(() => !document.querySelector("#scroller .typed"));
         await page.rests();
         await page.say("roll");
         same(await page.transcript(), native(["play", "--echo", "--seed", seed, MENU], "roll\n").text, `the seed ${typed}`);
