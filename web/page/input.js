@@ -31,6 +31,7 @@ export class Input {
         line.addEventListener("keydown", (event) => this.keyInLine(event));
         at("space").addEventListener("click", () => this.give(SPACE));
         document.addEventListener("keydown", (event) => this.keyAnywhere(event));
+        line.addEventListener("focus", putCaret);
         document.addEventListener("close", putCaret, true);
     }
 
@@ -45,6 +46,7 @@ export class Input {
         this.awaits = what;
         at("prompt").textContent = isLine && words && words.length <= SHORT ? words : "›";
         at("asked").textContent = !isLine ? "Press a key" : words.length > SHORT ? words : "What do you do?";
+        at("asked").classList.toggle("usual", isLine && words.length <= SHORT);
         at("space").hidden = isLine;
         line.maxLength = isLine ? Math.max(1, longest) : LONGEST;
         this.place = this.lines.length;

@@ -71,6 +71,11 @@ function lookedAt(top, turn, bottom) {
 }
 
 const scroller = at("scroller");
+
+function sizeOfView() {
+    return `${scroller.clientWidth} ${scroller.clientHeight}`;
+}
+
 const older = at("older");
 const log = at("log");
 
@@ -93,6 +98,8 @@ export class Log {
         this.top = 0;
         /** @type {"turn" | "end" | "before"} */
         this.look = "turn";
+        /** The size of the view when that was noted. */
+        this.size = sizeOfView();
         scroller.addEventListener("scroll", () => this.scrolled());
         new ResizeObserver(() => this.resized()).observe(scroller);
     }
@@ -363,6 +370,7 @@ export class Log {
 
     /** Keeps in view what the reader looks at where the view grows or shrinks, as by a keyboard on the screen. */
     resized() {
+        this.size = sizeOfView();
         if (this.look === "turn")
             this.goToTurn();
         else if (this.look === "end")
@@ -371,7 +379,9 @@ export class Log {
 
     /** Puts older blocks back where the reader comes near them. */
     scrolled() {
-        this.look = lookedAt(scroller.scrollTop, this.top, this.bottom());
+        // (a view that grows scrolls by itself)
+        if (this.size === sizeOfView())
+            this.look = lookedAt(scroller.scrollTop, this.top, this.bottom());
         if (scroller.scrollTop > scroller.clientHeight || this.first === 0)
             return;
         const from = Math.max(0, this.first - SHOWN);
@@ -391,10 +401,11 @@ export class Log {
     drawBlock(i, element, isWhole = true) {
         this.blocks[i].forEach((piece, place, block) => {
             const isOpen = !isWhole && i === this.blocks.length - 1 && place === block.length - 1;
+            const end = isOpen ? piece.text.lastIndexOf("\n") : piece.text.length;
             const old = /** @type {HTMLElement | undefined} */ (element.children[place]);
             const span = old || made("span", piece.kind);
             if (piece.kind === "text")
-                this.drawText(span, piece, isOpen ? piece.text.lastIndexOf("\n") : piece.text.length);
+                this.drawText(span, piece, end, this.gapAt(i, place));
             else if (!old)
                 drawOther(span, piece);
             if (!old)
@@ -404,15 +415,32 @@ export class Log {
     }
 
     /**
+     * How many characters a piece begins with that are not seen: the blank lines at the very start.
+     * @param {number} i
+     * @param {number} place
+     */
+    gapAt(i, place) {
+        const before = [...this.blocks.slice(0, i), this.blocks[i].slice(0, place)];
+        const isFirst = before.every((block) => block.every(({ text }) => !text.trim()));
+        return isFirst ? (/^(?:[ \t]*\n)*/.exec(this.blocks[i][place].text) || [""])[0].length : 0;
+    }
+
+    /**
      * Draws what an element does not have yet of a text, up to an index of it.
      * @param {HTMLElement} span
      * @param {Piece} piece
      * @param {number} end
+     * @param {number} gap
      */
-    drawText(span, { text, ranges = [] }, end) {
+    drawText(span, { text, ranges = [] }, end, gap) {
         // (what was drawn has become the prompt)
         if ((span.textContent || "").length > text.length)
             span.replaceChildren();
+        if (gap > 0 && end >= gap && !span.hasChildNodes()) {
+            const blank = made("span", "", text.slice(0, gap));
+            blank.hidden = true;
+            span.append(blank);
+        }
         const drawn = (span.textContent || "").length;
         const lines = text.slice(0, Math.max(0, end)).split("\n");
         const parts = document.createDocumentFragment();

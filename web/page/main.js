@@ -14,6 +14,7 @@ import { keepPlay } from "./resume.js";
 import { askRestore, askSave, prepareSaves, showSaves } from "./saves.js";
 import { Screen } from "./screen.js";
 import { sumOf } from "./sums.js";
+import { prepareView } from "./view.js";
 
 const log = new Log();
 const screen = new Screen();
@@ -124,6 +125,7 @@ function prepareDrop() {
 }
 
 prepareLook();
+prepareView();
 prepareSaves();
 prepareInside();
 prepareButtons();

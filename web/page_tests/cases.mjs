@@ -611,7 +611,7 @@ async function settings(page) {
     }, id, value);
     const looks = () => page.run(() => {
         const { backgroundColor } = getComputedStyle(document.body);
-        return `${backgroundColor} ${getComputedStyle(document.getElementById("scroller")).fontSize}`;
+        return `${backgroundColor} ${getComputedStyle(document.getElementById("log")).fontSize}`;
     });
     const before = await looks();
     await choose("theme", "dark");

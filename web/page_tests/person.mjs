@@ -1,8 +1,8 @@
 // What a person meets: where the focus is and what is typed then, what is seen of the newest turn, and what is spoken. All
 // is done by keys, the mouse and fingers of the browser.
 
-import { EXAMPLES, MENU, holds, join, native, readFileSync, same } from "./page.mjs";
-import { counting } from "./stories.mjs";
+import { EXAMPLES, MENU, holds, join, native, pause, readFileSync, same } from "./page.mjs";
+import { counting, telling } from "./stories.mjs";
 
 const Z5 = join(EXAMPLES, "lighthouse.z5");
 
@@ -65,6 +65,9 @@ async function typesAtOnce(page) {
         await page.until(isOpen);
         await page.fill("save-name", `by ${how}`);
         await leave(page, "#keep");
+        // (a tap is one some time after the finger has left)
+        if (how === "a finger")
+            await page.until(() => !document.querySelector("dialog[open]"));
         await page.browser.write("wait");
         await page.browser.press("Enter");
         await goneOn(page);
@@ -351,6 +354,144 @@ async function hearsParts(page) {
     same((await page.heard()).log, ">go\nFirst.\nWaitDone.\nNow what?\n", "what is spoken of the next turn");
 }
 
+/** In the page: how many lines of the story are seen whole. */
+function linesSeen() {
+    const { top, bottom } = document.getElementById("scroller").getBoundingClientRect();
+    const tops = new Set();
+    for (const text of document.querySelectorAll("#scroller .text")) {
+        const range = document.createRange();
+        range.selectNodeContents(text);
+        for (const it of range.getClientRects())
+            if (it.width > 0 && it.top >= top - 1 && it.bottom <= Math.min(bottom, innerHeight) + 1)
+                tops.add(Math.round(it.top));
+    }
+    return tops.size;
+}
+
+/** Does something with a view of another size. */
+async function inView(page, width, height, does) {
+    await page.browser.size(width, height);
+    try {
+        await does();
+    } finally {
+        await page.browser.size(1100, 800);
+    }
+}
+
+/** Where the keyboard of a phone takes a part of the view, the newest turn stays in it; what else is read, too. */
+async function keyboardOnScreen(page) {
+    await inView(page, 360, 640, async () => {
+        await walked(page);
+        await page.tap("#line");
+        for (const height of [360, 300, 640]) {
+            await page.browser.size(360, height);
+            await page.until((it) => Math.abs(innerHeight - it) < 100, height);
+            await pause(100);
+            holds(await page.newestIsSeen(), `the newest turn is not seen in a view of ${height} pixels`);
+        }
+        await page.browser.press("PageUp");
+        await pause(100);
+        const top = await page.run(() => document.getElementById("scroller").scrollTop);
+        await page.browser.size(360, 360);
+        await page.until(() => innerHeight <= 400);
+        await pause(100);
+        same(await page.run(() => document.getElementById("scroller").scrollTop), top, "where the reader has scrolled to");
+    });
+}
+
+/** In the page: a visual viewport that a keyboard has made lower, as some phones have it. No driver can open a keyboard. */
+function lowerInPage(height, scale) {
+    Object.defineProperty(visualViewport, "height", { value: height, configurable: true });
+    Object.defineProperty(visualViewport, "scale", { value: scale, configurable: true });
+    visualViewport.dispatchEvent(new Event("resize"));
+}
+
+/** The same where the browser makes the visual viewport alone lower; zooming by two fingers changes nothing. */
+async function keyboardOverPage(page) {
+    const bottom = () => page.run(() => document.getElementById("ask").getBoundingClientRect().bottom);
+    await inView(page, 360, 640, async () => {
+        await walked(page);
+        const whole = await bottom();
+        await page.run(lowerInPage, 330, 1);
+        await page.until(() => document.getElementById("ask").getBoundingClientRect().bottom <= 330);
+        holds(await page.newestIsSeen(), "the newest turn is not seen above the keyboard");
+        await typesOn(page, "look", "above the keyboard");
+        await page.run(lowerInPage, 200, 2);
+        same(await bottom(), whole, "the end of the page where the reader has zoomed in");
+        await page.run(lowerInPage, await page.run(() => innerHeight), 1);
+        same(await bottom(), whole, "the end of the page without the keyboard");
+        await page.reload();
+    });
+}
+
+/** On its side, a phone shows text where the head was; Undo and the menu are there to be tapped all the same. */
+async function onItsSide(page) {
+    await inView(page, 640, 360, async () => {
+        await walked(page);
+        const top = () => page.run(() => document.getElementById("upper").getBoundingClientRect().top);
+        holds(await top() < 16, `the status line is at ${await top()}`);
+        holds(await page.run(linesSeen) >= 5, `${await page.run(linesSeen)} lines are seen`);
+        holds(await page.newestIsSeen(), "the newest turn is not seen");
+        await page.tap("#undo");
+        await page.until((count) => document.querySelectorAll("#scroller .typed").length === count, WALK.length - 1);
+        await page.tap("#show-menu");
+        await page.until(isOpen);
+        await page.tap("#menu .head button");
+        await goneOn(page);
+        await page.tap("#line");
+        await typesOn(page, "look", "on its side");
+        await page.browser.write("wait");
+        await page.tap("#enter");
+        await page.rests();
+        same(await page.run(lastTyped), "wait", "what was sent by Enter");
+    });
+}
+
+/** With a zoom of 400 per cent more than one line of the story is seen. (Firefox makes no window as narrow.) */
+async function muchZoom(page) {
+    const found = [];
+    for (const height of [256, 180])
+        await inView(page, 320, height, async () => {
+            await walked(page);
+            const count = await page.run(linesSeen);
+            holds(count > 1, `${count} lines are seen in a view of ${height} pixels`);
+            await typesOn(page, "look", "in a low view");
+            const wide = await page.run(() => document.documentElement.scrollWidth - innerWidth);
+            holds(wide <= 0, `the page is ${wide} pixels too wide`);
+            found.push(count);
+        });
+    return `${found.join(" and ")} lines`;
+}
+
+/** No field has letters into which a phone zooms. */
+async function largeFields(page) {
+    await page.fresh();
+    await page.click("#example");
+    await page.rests();
+    const small = await page.run(() => [...document.querySelectorAll("input:not([type=file]), select")]
+        .filter((it) => parseFloat(getComputedStyle(it).fontSize) < 16).map((it) => it.id).join());
+    same(small, "", "the fields of small letters");
+}
+
+/** Blank lines at the start are not seen, and stand in the transcript as they came; those after that are seen. */
+async function blankStart(page) {
+    await page.fresh();
+    for (const [i, gap] of ["", "\n\n\n\n \n\n"].entries()) {
+        const text = `${gap}A room.\n\n\nA door.\n>`;
+        await page.drop(telling(text), `blank${i}.z5`);
+        await page.until((name) => document.getElementById("title").textContent === name, `blank${i}.z5`);
+        await page.rests();
+        const [from, to] = await page.run(() => {
+            const it = document.querySelector("#scroller .text");
+            const { top, height } = it.getBoundingClientRect();
+            return [top - document.getElementById("scroller").getBoundingClientRect().top,
+                height / parseFloat(getComputedStyle(it).lineHeight)];
+        });
+        holds(from < 40 && to > 3.5 && to < 4.5, `the text is at ${from}, and ${to} lines high`);
+        same(await page.transcript(), text, "the transcript");
+    }
+}
+
 export const PERSON = [
     ["typing after a game was saved", typesAfterSaving],
     ["typing at once after a game was saved", typesAtOnce],
@@ -363,4 +504,10 @@ export const PERSON = [
     ["nothing is spoken again", hearsNothingAgain],
     ["ends and pauses are spoken", hearsEnds],
     ["parts of a turn are spoken as they come", hearsParts],
+    ["a keyboard on the screen", keyboardOnScreen],
+    ["a keyboard over the page", keyboardOverPage],
+    ["a phone on its side", onItsSide],
+    ["much zoom", muchZoom],
+    ["fields of large letters", largeFields],
+    ["blank lines at the start", blankStart],
 ];
