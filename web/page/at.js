@@ -92,6 +92,12 @@ export async function agreed(head, words, yes = "Yes", no = "No") {
     return await closed(dialog("asking")) === "yes";
 }
 
+/** Closes all windows; a question is answered by no. */
+export function closeWindows() {
+    for (const it of /** @type {NodeListOf<HTMLDialogElement>} */ (document.querySelectorAll("dialog[open]")))
+        it.close();
+}
+
 /**
  * Says something short in the page's line for it.
  * @param {string} words

@@ -28,6 +28,7 @@ export class Input {
         this.early = [];
         form.addEventListener("submit", (event) => this.submit(event));
         line.addEventListener("input", () => this.takeCharacter());
+        document.addEventListener("paste", (event) => this.paste(event));
         line.addEventListener("keydown", (event) => this.keyInLine(event));
         at("space").addEventListener("click", () => this.give(SPACE));
         document.addEventListener("keydown", (event) => this.keyAnywhere(event));
@@ -114,6 +115,26 @@ export class Input {
             this.give(text);
         else
             this.early.push(text);
+    }
+
+    /**
+     * Sends each line of a text that is pasted where nothing else takes it; what stands behind the last line end stays
+     * in the field.
+     * @param {ClipboardEvent} event
+     */
+    paste(event) {
+        const text = event.clipboardData ? event.clipboardData.getData("text/plain") : "";
+        const [first, ...rest] = text.split(/\r\n|\r|\n/);
+        const isHere = document.activeElement === line;
+        if (form.hidden || this.awaits === "character" || isHere && rest.length === 0
+            || !isHere && isTaken(/** @type {HTMLElement} */ (event.target), 0))
+            return;
+        event.preventDefault();
+        line.focus({ preventScroll: true });
+        line.setRangeText(first, line.selectionStart || 0, line.selectionEnd || 0, "end");
+        const lines = [line.value, ...rest].map((it) => it.slice(0, line.maxLength));
+        line.value = lines.pop() || "";
+        lines.forEach((it) => this.takeLine(it));
     }
 
     /** Gives the first character of the field to a story that awaits one; those after it wait for the next time. */

@@ -220,13 +220,14 @@ export class Log {
         this.turn = this.blocks.length - 1;
     }
 
-    /**
-     * Adds the page's own words.
-     * @param {string} words
-     */
-    note(words) {
-        this.newBlock();
-        this.add("note", words);
+    /** Begins the part that the page's Undo brings, behind the prompt that it answers. */
+    undone() {
+        if (this.held)
+            this.release();
+        else
+            this.newBlock();
+        this.turn = this.blocks.length - 1;
+        this.add("note", "(Undo)\n");
     }
 
     /**

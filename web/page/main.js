@@ -1,6 +1,6 @@
 // The page: lets its parts work together.
 
-import { at, chosenFile, dialog, field, giveFile, stem } from "./at.js";
+import { agreed, at, chosenFile, closeWindows, dialog, field, giveFile, stem, tell } from "./at.js";
 import { prepareInside, showInside } from "./inside.js";
 import { Input } from "./input.js";
 import { showLines } from "./lines.js";
@@ -10,7 +10,7 @@ import { prepareLook } from "./look.js";
 import { moduleBytes } from "./machine.js";
 import { Opening, example } from "./opening.js";
 import { Play } from "./play.js";
-import { keepPlay } from "./resume.js";
+import { keepPlay, keptPlay, seePlay } from "./resume.js";
 import { askRestore, askSave, prepareSaves, showSaves } from "./saves.js";
 import { Screen } from "./screen.js";
 import { sumOf } from "./sums.js";
@@ -42,6 +42,7 @@ function opened() {
     const name = play.story ? play.story.name : "zkit";
     at("title").textContent = name;
     document.title = `${name} · zkit`;
+    closeWindows();
     at("welcome").hidden = true;
     at("play").hidden = at("tools").hidden = false;
 }
@@ -51,9 +52,47 @@ function changed() {
     at("script").hidden = play.script === "";
     if (isLink(location.hash))
         history.replaceState(null, "", location.href.replace(/#.*/, ""));
-    const kept = play.kept(moduleSum);
-    if (kept)
-        keepPlay(kept);
+    const isKeeping = due !== null;
+    due = play.kept(moduleSum) || due;
+    if (due && !isKeeping)
+        keepAll();
+}
+
+/**
+ * The play that has still to be kept.
+ * @type {import("./resume.js").Kept | null}
+ */
+let due = null;
+let isFull = false;
+
+/** Keeps the newest play, one after another. */
+async function keepAll() {
+    for (let now = due; now; now = due === now ? null : due) {
+        const came = await keepPlay(now);
+        if (came === "elsewhere")
+            await chooseTab(now);
+        if (came === "full" && !isFull)
+            tell("The browser has no room to keep this play. Save the game as a file before you leave.", true);
+        isFull = came === "full";
+    }
+    due = null;
+}
+
+/**
+ * Asks which play of a story goes on, where another page has kept one meanwhile.
+ * @param {import("./resume.js").Kept} now
+ */
+async function chooseTab(now) {
+    const words = "You play this story in another tab or window too. Only one of the plays is kept.";
+    const isThis = await agreed("Which play goes on?", words, "This one", "The other one");
+    await seePlay(now.story);
+    if (isThis) {
+        await keepPlay(now);
+        return;
+    }
+    const other = await keptPlay(now.story);
+    if (other && play.story && play.sum === now.story)
+        await opening.goOn(play.story, other);
 }
 
 /**
@@ -93,7 +132,11 @@ function prepareButtons() {
     onClick("menu-lines", openLines);
     onClick("show-inside", openInside);
     onClick("menu-inside", openInside);
-    onClick("show-saves", () => showSaves(ofPlay()));
+    onClick("show-saves", async () => {
+        const image = await showSaves(ofPlay());
+        if (image)
+            await play.restoreGame(image);
+    });
     onClick("transcript", () => giveFile(log.transcript(), `${stem(ofPlay().game)}.txt`));
     onClick("script", () => giveFile(play.script, `${stem(ofPlay().game)}.script.txt`));
     at("show-menu").addEventListener("click", () => {
@@ -119,8 +162,10 @@ function prepareDrop() {
     addEventListener("drop", (event) => {
         event.preventDefault();
         const file = event.dataTransfer ? event.dataTransfer.files[0] : null;
-        if (file)
-            opening.openFile(file);
+        if (!file)
+            return;
+        closeWindows();
+        opening.openFile(file);
     });
 }
 

@@ -2,10 +2,11 @@
 
 import { isRead } from "./answers.js";
 import { agreed, at, bytesOf, field, fromBase64, tell } from "./at.js";
+import { lacking, wordsOnFile } from "./kinds.js";
 import { isLink, playAt, playOf } from "./link.js";
 import { NotOpened } from "./machine.js";
 import { Left } from "./play.js";
-import { keepStory, keptPlay, lastPlay, storyOf, tidy } from "./resume.js";
+import { keepStory, keptPlay, lastPlay, seePlay, storyOf, tidy } from "./resume.js";
 import { sumOf } from "./sums.js";
 
 /** @typedef {import("./link.js").Shared} Shared */
@@ -89,6 +90,7 @@ export class Opening {
     async start(story, answers = [], withSeed = seed(), later = []) {
         return trying(story.name, async () => {
             tell("");
+            await seePlay(sumOf(story.bytes));
             await this.play.start(story, withSeed, answers, later);
             await keepStory({ ...story, ifid: this.play.ifid }, this.play.sum);
             this.changed();
@@ -142,6 +144,7 @@ export class Opening {
      */
     async goOn(story, kept) {
         field("seed").value = kept.seed;
+        await seePlay(kept.story);
         try {
             if (kept.module === this.moduleSum && kept.snapshot) {
                 await this.play.resume(story, kept);
@@ -165,13 +168,33 @@ export class Opening {
             await this.offer(shared, file.name);
             return;
         }
+        const words = wordsOnFile(bytes);
+        if (words) {
+            tell(`${file.name}: ${words}.`, true);
+            return;
+        }
         await trying(file.name, async () => {
             const story = await this.play.storyIn(bytes);
             if (story)
-                await this.open({ name: file.name, bytes: story });
+                await this.openWhole({ name: file.name, bytes: story });
             else
                 tell(`${file.name}: this Blorb file contains no story, or it was cut off.`, true);
         });
+    }
+
+    /**
+     * Opens a story. Where it was cut off, says so, and asks before it takes the place of a play that is on.
+     * @param {StoryFile} story
+     */
+    async openWhole(story) {
+        const [has, lacks] = [story.bytes.length, lacking(story.bytes)];
+        const words = `${story.name} is cut off: ${lacks.toLocaleString("en")} of its `
+            + `${(has + lacks).toLocaleString("en")} bytes are missing.`;
+        if (lacks && this.play.story && !await agreed("Play a story that is cut off?", words, "Play it", "No"))
+            return;
+        await this.open(story);
+        if (lacks && this.play.story && this.play.story.bytes === story.bytes)
+            tell(words, true);
     }
 
     /**

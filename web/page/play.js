@@ -115,6 +115,11 @@ export class Play {
         this.turnText = "";
         /** @type {string[]} */
         this.lastRows = [];
+        /**
+         * The saved game that the story gets where it asks for one.
+         * @type {Uint8Array | null}
+         */
+        this.chosen = null;
         at("stop").addEventListener("click", () => this.stop());
         at("go-on").addEventListener("click", () => this.go(null));
         at("step-back").addEventListener("click", () => this.back());
@@ -396,6 +401,22 @@ export class Play {
     }
 
     /**
+     * Restores a saved game by the story's own command.
+     * @param {Uint8Array} image
+     */
+    async restoreGame(image) {
+        if (this.isBusy || !this.standing || this.standing.awaits !== "line") {
+            tell("The story awaits no command. Restore the game when it does.", true);
+            return;
+        }
+        this.chosen = image;
+        await this.give("restore");
+        if (this.chosen)
+            tell("The story did not take the command RESTORE. Type its own command to restore a game.", true);
+        this.chosen = null;
+    }
+
+    /**
      * Gives an answer, if any, and goes on to the next read.
      * @param {Answer | null} answer
      */
@@ -436,8 +457,21 @@ export class Play {
             const image = await /** @type {Machine} */ (this.machine).image();
             return { saved: image !== null && await this.reader.save(image) };
         }
-        const image = await this.reader.restore();
+        const image = this.chosen || await this.reader.restore();
+        this.chosen = null;
         return { restored: image && toBase64(image) };
+    }
+
+    /**
+     * Records an answer to a read.
+     * @param {Answer} answer
+     */
+    record(answer) {
+        if (this.here && this.here.snapshot) {
+            this.marks.push(this.here);
+            this.marks.splice(0, this.marks.length - MARKS);
+        }
+        this.answers.push(answer);
     }
 
     /**
@@ -445,16 +479,13 @@ export class Play {
      * @param {Answer} answer
      */
     note(answer) {
-        if (this.here && this.here.snapshot) {
-            this.marks.push(this.here);
-            this.marks.splice(0, this.marks.length - MARKS);
-        }
-        this.answers.push(answer);
-        if (typeof answer === "string") {
+        this.record(answer);
+        if (typeof answer === "string")
             this.log.typed(answer);
-        } else {
+        else if (typeof answer === "object")
+            this.log.undone();
+        else
             this.log.pressed();
-        }
     }
 
     /**
@@ -580,13 +611,17 @@ export class Play {
             return;
         }
         await this.guarded(async () => {
+            const mark = this.log.mark();
+            this.log.undone();
             const standing = await this.step({ undo: true });
             if (standing.awaits === "refused") {
+                this.log.cut(mark);
                 this.beBusy(false);
                 await this.backToLast();
                 return;
             }
-            this.note({ undo: true });
+            this.later = [];
+            this.record({ undo: true });
             this.settle(standing);
         });
     }

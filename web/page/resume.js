@@ -21,6 +21,7 @@ import { sumOf } from "./sums.js";
  * @property {any} log
  * @property {string[]} box
  * @property {number} date
+ * @property {string} [page] the page that has kept it
  */
 
 const LAST = "last";
@@ -47,12 +48,57 @@ export async function keepStory(story, sum) {
 /** The story whose play was kept last. */
 let lastStory = "";
 
-/** @param {Kept} play */
+/** This page among all that keep plays, as in other tabs. */
+const PAGE = String(Math.random());
+
+/**
+ * Which play of each story this page has kept or seen last. Where another one is kept, another page goes on with it.
+ * @type {Map<string, string>}
+ */
+const seen = new Map();
+
+/** @param {Kept | null} play */
+function stampOf(play) {
+    return play ? `${play.page} ${play.date}` : "";
+}
+
+/**
+ * Takes the play of a story that is kept as the one that this page goes on with, or puts another one in its place.
+ * @param {string} sum
+ */
+export async function seePlay(sum) {
+    seen.set(sum, stampOf(await keptPlay(sum)));
+}
+
+/**
+ * Whether two plays of a story stand at the same place.
+ * @param {Kept} one
+ * @param {Kept} other
+ */
+function isSame(one, other) {
+    return one.chain === other.chain && one.seed === other.seed
+        && JSON.stringify(one.answers) === JSON.stringify(other.answers);
+}
+
+/**
+ * Keeps a play, unless another page has kept one of the same story meanwhile or there is no room, and tells so.
+ * @param {Kept} play
+ * @returns {Promise<"kept" | "full" | "elsewhere">}
+ */
 export async function keepPlay(play) {
-    await keep("plays", play.story, play);
+    const before = await keptPlay(play.story);
+    if (before && stampOf(before) !== seen.get(play.story))
+        return "elsewhere";
+    if (before && isSame(before, play))
+        return "kept";
+    const own = { ...play, page: PAGE };
+    if (!await keep("plays", play.story, own))
+        return "full";
+    seen.set(play.story, stampOf(own));
     if (lastStory !== play.story)
         await keep("plays", LAST, { story: play.story, ifid: play.ifid });
     lastStory = play.story;
+    return "kept";
 }
 
 /** Forgets the oldest plays, and stories without one. */

@@ -90,14 +90,15 @@ export class Chromium {
         return before;
     }
 
-    /** Goes to a tab, and closes the one before if that is wanted. */
+    /** Goes to a tab, and answers the one before, which is closed if that is wanted. */
     async goTo(tab, isClosing = false) {
-        const { targetId } = this.here;
+        const before = this.here;
         this.here = tab;
         this.call = tab.call;
         await this.pipe.send("Target.activateTarget", { targetId: tab.targetId });
         if (isClosing)
-            await this.pipe.send("Target.closeTarget", { targetId });
+            await this.pipe.send("Target.closeTarget", { targetId: before.targetId });
+        return before;
     }
 
     version() {
@@ -145,6 +146,15 @@ export class Chromium {
         const it = { key, code, windowsVirtualKeyCode: number, modifiers: isShifted ? 8 : 0 };
         const down = { type: text ? "keyDown" : "rawKeyDown", text: text || undefined, ...it };
         await Promise.all([down, { type: "keyUp", ...it }].map((event) => this.call("Input.dispatchKeyEvent", event)));
+    }
+
+    /** Puts a text on the clipboard, and pastes it by the keys. */
+    async paste(text) {
+        await this.pipe.send("Browser.grantPermissions", { permissions: ["clipboardReadWrite", "clipboardSanitizedWrite"] });
+        await this.run((it) => navigator.clipboard.writeText(it), text);
+        const it = { key: "v", code: "KeyV", windowsVirtualKeyCode: 86, modifiers: 2 };
+        await this.call("Input.dispatchKeyEvent", { type: "rawKeyDown", commands: ["paste"], ...it });
+        await this.call("Input.dispatchKeyEvent", { type: "keyUp", ...it });
     }
 
     /** Clicks at a place by the mouse. */

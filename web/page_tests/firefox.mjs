@@ -12,6 +12,7 @@ const KEYS = {
     ArrowLeft: "\uE012", Backspace: "\uE003", PageUp: "\uE00E", PageDown: "\uE00F", Home: "\uE011", End: "\uE010",
 };
 const SHIFT = "\uE008";
+const CONTROL = "\uE009";
 const ELEMENT = "element-6066-11e4-a52e-4f735466cecf";
 
 export function program() {
@@ -24,6 +25,7 @@ function preferences(folder) {
         "browser.helperApps.neverAsk.saveToDisk": "application/octet-stream", "browser.download.alwaysOpenPanel": false,
         "browser.shell.checkDefaultBrowser": false, "datareporting.policy.dataSubmissionEnabled": false,
         "app.update.enabled": false, "network.captive-portal-service.enabled": false, "browser.startup.page": 0,
+        "dom.events.testing.asyncClipboard": true,
     };
     return Object.entries(set).map(([name, value]) => `user_pref("${name}", ${JSON.stringify(value)});\n`).join("");
 }
@@ -116,17 +118,17 @@ export class Firefox {
 
     /** Opens another tab and goes to it, and answers the one before. */
     async tab() {
-        const { value: before } = await this.wire.send("WebDriver:GetWindowHandle");
         const { handle } = await this.wire.send("WebDriver:NewWindow", { type: "tab" });
-        await this.goTo(handle);
-        return before;
+        return this.goTo(handle);
     }
 
-    /** Goes to a tab, and closes the one before if that is wanted. */
+    /** Goes to a tab, and answers the one before, which is closed if that is wanted. */
     async goTo(handle, isClosing = false) {
+        const { value: before } = await this.wire.send("WebDriver:GetWindowHandle");
         if (isClosing)
             await this.wire.send("WebDriver:CloseWindow");
         await this.wire.send("WebDriver:SwitchToWindow", { handle });
+        return before;
     }
 
     async go(url) {
@@ -156,6 +158,12 @@ export class Firefox {
     async press(key, isShifted = false) {
         const shift = [{ type: "keyDown", value: SHIFT }];
         await this.keys(KEYS[key] || key, isShifted ? shift : [], isShifted ? [{ ...shift[0], type: "keyUp" }] : []);
+    }
+
+    /** Puts a text on the clipboard, and pastes it by the keys. */
+    async paste(text) {
+        await this.run((it) => navigator.clipboard.writeText(it), text);
+        await this.keys("v", [{ type: "keyDown", value: CONTROL }], [{ type: "keyUp", value: CONTROL }]);
     }
 
     /** Clicks at a place by the mouse. */

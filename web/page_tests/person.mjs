@@ -492,6 +492,189 @@ async function blankStart(page) {
     }
 }
 
+/** The page's Undo leaves each prompt whole: the one that it answers, and the one of the next line. */
+async function undoneWhole(page) {
+    await page.fresh();
+    await page.click("#example");
+    await page.rests();
+    await page.sayAll(["undo on", "north"]);
+    await page.hear();
+    await page.click("#undo");
+    await page.rests();
+    const { log } = await page.heard();
+    holds(log.startsWith(">(Undo)\nThat turn is taken back.\n\nJetty\n"), `this is spoken of Undo: ${log}`);
+    same(await page.text("prompt"), ">", "the prompt after Undo");
+    await page.say("look");
+    const last = await page.run(() => [...[...document.querySelectorAll("#scroller .turn")].pop().children]
+        .slice(0, 2).map((it) => `${it.className}:${it.textContent}`).join("|"));
+    same(last, "prompt:>|typed:look\n", "the line after Undo");
+    const text = await page.transcript();
+    const file = await sharedFile(page);
+    await page.fresh();
+    await page.drop(Buffer.from(JSON.stringify(file)), "undone.play.json");
+    await page.until(() => document.getElementById("told").textContent.includes("letter by letter"));
+    same(await page.transcript(), text, "the transcript of the play that is repeated");
+    holds((await page.text("scroller")).includes(">(Undo)\nThat turn"), "the prompt is not whole in the play that is repeated");
+}
+
+/** A text of several lines that is pasted is as many lines; what stands behind the last line end waits for Enter. */
+async function pastes(page) {
+    await page.fresh();
+    await page.click("#example");
+    await page.rests();
+    await page.browser.write("open ");
+    await page.browser.paste("bag\ntake letter\r\n\nnor");
+    await page.until(() => document.querySelectorAll("#scroller .typed").length === 3);
+    await page.rests();
+    same(await page.focus(), "line 3", "the focus and the caret after a paste");
+    await page.browser.write("th");
+    await page.browser.press("Enter");
+    await page.rests();
+    const lines = "open bag\ntake letter\n\nnorth\n";
+    same(await page.transcript(), native(["play", "--echo", Z5], lines).text, "the transcript");
+    await page.browser.paste("look");
+    await page.until(() => document.getElementById("line").value === "look");
+    same(await page.run(lastTyped), "north", "what was typed last where one line is pasted");
+}
+
+/** A browser that has no room for a play says so once, as it does for a saved game. */
+async function fullStore(page) {
+    const words = "The browser has no room to keep this play. Save the game as a file before you leave.";
+    await page.fresh();
+    await page.open(MENU);
+    await page.keeps(0);
+    await page.hear();
+    await page.run(() => {
+        IDBObjectStore.prototype.put = () => {
+            throw new DOMException("full", "QuotaExceededError");
+        };
+    });
+    await page.say("hello");
+    await page.until((it) => document.getElementById("told").textContent === it, words);
+    same((await page.heard()).told, words, "what is told of a full store");
+    await page.say("roll");
+    await page.rests();
+    same(await page.told(), "", "what is told after the next line");
+}
+
+/** A file that is dropped while a window stands over the page closes it, and what is typed goes to the new story. */
+async function dropsClose(page) {
+    for (const button of ["show-menu", "show-lines", "show-inside"]) {
+        await page.fresh();
+        await page.open(MENU);
+        await page.click(`#${button}`);
+        await page.until(isOpen);
+        await page.drop(readFileSync(Z5), "dropped.z5");
+        await page.until(() => document.getElementById("title").textContent === "dropped.z5");
+        await goneOn(page);
+        await typesOn(page, "look", `after a drop over the window of ${button}`);
+    }
+    await page.click("#show-menu");
+    await page.until(isOpen);
+    await page.drop(Buffer.from("no story"), "tale.txt");
+    await page.until(() => document.getElementById("told").textContent.startsWith("tale.txt: not a story"));
+    holds(!await page.run(isOpen), "the menu hides what is told of a file");
+}
+
+/** 'Saved games' in the menu restores the one that is chosen, by the story's own command. */
+async function restoresFromMenu(page) {
+    await page.fresh();
+    await page.click("#example");
+    await page.rests();
+    await page.sayAll(["open bag", "take letter", "save"]);
+    await page.click("#keep");
+    await goneOn(page);
+    await page.say("north");
+    for (const leave of Object.values(LEAVES)) {
+        await page.menu("show-saves");
+        await page.until(isOpen);
+        await leave(page, "#slots .pick");
+        await page.until(() => [...document.querySelectorAll("#scroller .typed")].pop().textContent === "restore\n");
+        await goneOn(page);
+        same((await page.text("upper")).trim().split(/ {3,}/)[0], "Jetty", "the place that was restored");
+        await typesOn(page, "inventory", "after a game was restored from the menu");
+        await page.say("north");
+    }
+    holds((await page.text("scroller")).includes("a letter"), "the letter is not there");
+    await page.open(MENU);
+    await page.menu("show-saves");
+    await page.choose(`${Z5}.dfrotz`, "saved-file");
+    await page.click("#slots .pick");
+    await page.until(() => document.getElementById("told").textContent.startsWith("The story did not take the command RESTORE."));
+    await page.say("menu");
+    await page.menu("show-saves");
+    await page.click("#slots .pick");
+    await page.until(() => document.getElementById("told").textContent.startsWith("The story awaits no command."));
+}
+
+/** A saved game, a story for another machine and a story that was cut off have their own words; the play that is on stays. */
+async function otherFiles(page) {
+    const story = readFileSync(Z5);
+    const glulx = Buffer.concat([Buffer.from("Glul"), Buffer.alloc(500)]);
+    const chunk = Buffer.concat([Buffer.from("GLUL\0\0\0\x04"), glulx.subarray(0, 4)]);
+    const blorb = Buffer.concat([Buffer.from("FORM\0\0\0\x1aIFRSAUTH\0\0\0\x01a\0"), chunk]);
+    const tries = [
+        [readFileSync(`${Z5}.dfrotz`), "game.qzl", "this is a saved game. Open its story, and restore it there."],
+        [glulx, "other.ulx", "not a story: it is a Glulx story, which is for another machine"],
+        [blorb, "other.gblorb", "this Blorb file contains a Glulx story, which is for another machine."],
+    ];
+    const cut = story.subarray(0, story.length - 1000);
+    const whole = story.readUInt16BE(0x1a) * 4;
+    const lacks = `cut.z5 is cut off: ${(whole - cut.length).toLocaleString("en")} of its ${whole.toLocaleString("en")} bytes are missing.`;
+    await page.fresh();
+    await page.drop(cut, "cut.z5");
+    await page.until((it) => document.getElementById("told").textContent === it, lacks);
+    await page.open(MENU);
+    await page.say("hello");
+    for (const [bytes, name, words] of tries) {
+        await page.drop(bytes, name);
+        await page.until((it) => document.getElementById("told").textContent === it, `${name}: ${words}`);
+    }
+    await page.drop(cut, "cut.z5");
+    await page.asks("Play a story that is cut off?", "Play it", "No");
+    same(await page.text("asking-words"), lacks);
+    await page.click("#asking-no");
+    await goneOn(page);
+    await typesOn(page, "roll", "after files that are no stories");
+    same(await page.transcript(), native(["play", "--echo", MENU], "hello\nroll\n").text, "the transcript");
+}
+
+/** Where two tabs play one story, the one that goes on later asks which play is kept. */
+async function twoTabs(page) {
+    const typed = () => [...document.querySelectorAll("#scroller .typed")].map((it) => it.textContent.trim()).join();
+    const asked = ["Which play goes on?", "This one", "The other one"];
+    await page.fresh();
+    await page.open(MENU);
+    await page.say("first");
+    await page.keeps(1);
+    const one = await page.browser.tab();
+    await page.browser.go(page.url);
+    await page.ready();
+    await page.rests();
+    await page.sayAll(["second", "next"]);
+    await page.keeps(3);
+    const two = await page.browser.goTo(one);
+    await page.say("other");
+    await page.asks(...asked);
+    await page.click("#asking-no");
+    await page.until(() => document.querySelectorAll("#scroller .typed").length === 3);
+    await goneOn(page);
+    same(await page.run(typed), "first,second,next", "the lines of the other play");
+    await typesOn(page, "fourth", "after the other play was chosen");
+    await page.keeps(4);
+    await page.browser.goTo(two);
+    await page.say("own");
+    await page.asks(...asked);
+    await page.click("#asking-yes");
+    await goneOn(page);
+    await typesOn(page, "else", "after this play was chosen");
+    await page.keeps(5);
+    await page.reload();
+    await page.rests();
+    same(await page.run(typed), "first,second,next,own,else", "the lines after a reload");
+    await page.browser.goTo(one, true);
+}
+
 export const PERSON = [
     ["typing after a game was saved", typesAfterSaving],
     ["typing at once after a game was saved", typesAtOnce],
@@ -510,4 +693,11 @@ export const PERSON = [
     ["much zoom", muchZoom],
     ["fields of large letters", largeFields],
     ["blank lines at the start", blankStart],
+    ["Undo leaves prompts whole", undoneWhole],
+    ["a paste of several lines", pastes],
+    ["a store that is full", fullStore],
+    ["files that are dropped over a window", dropsClose],
+    ["saved games are restored from the menu", restoresFromMenu],
+    ["files that are no whole stories", otherFiles],
+    ["two tabs of one story", twoTabs],
 ];
