@@ -168,7 +168,7 @@ export class Input {
     keyAnywhere(event) {
         const target = /** @type {HTMLElement} */ (event.target);
         const code = codeOf(event);
-        if (code === null || !this.awaits || isTaken(target, code))
+        if (code === null || !this.awaits || at("play").hidden || isTaken(target, code))
             return;
         if (this.awaits === "character") {
             event.preventDefault();

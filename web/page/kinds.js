@@ -16,17 +16,28 @@ export function isQuetzal(bytes) {
 }
 
 /**
- * Whether a file is a Blorb file with a story for Glulx: one of its chunks is that.
+ * What a chunk of a Blorb file has; null where there is none of its kind.
  * @param {Uint8Array} bytes
+ * @param {string} kind
  */
-function isGlulxBlorb(bytes) {
+function chunkOf(bytes, kind) {
     const view = new DataView(bytes.buffer, bytes.byteOffset, bytes.byteLength);
     if (!has(bytes, 0, "FORM") || !has(bytes, 8, "IFRS"))
-        return false;
+        return null;
     for (let at = 12; at + 8 <= bytes.length; at += 8 + view.getUint32(at + 4) + view.getUint32(at + 4) % 2)
-        if (has(bytes, at, "GLUL"))
-            return true;
-    return false;
+        if (has(bytes, at, kind))
+            return bytes.subarray(at + 8, at + 8 + view.getUint32(at + 4));
+    return null;
+}
+
+/**
+ * The title that a Blorb file states for its story; "" where there is none.
+ * @param {Uint8Array} bytes
+ */
+export function titleOfBlorb(bytes) {
+    const text = new TextDecoder().decode(chunkOf(bytes, "IFmd") || new Uint8Array());
+    const title = new DOMParser().parseFromString(text, "application/xml").querySelector("story title");
+    return ((title && title.textContent) || "").trim();
 }
 
 /**
@@ -36,7 +47,7 @@ function isGlulxBlorb(bytes) {
 export function wordsOnFile(bytes) {
     if (isQuetzal(bytes))
         return "this is a saved game. Open its story, and restore it there";
-    return isGlulxBlorb(bytes) ? "this Blorb file contains a Glulx story, which is for another machine" : "";
+    return chunkOf(bytes, "GLUL") ? "this Blorb file contains a Glulx story, which is for another machine" : "";
 }
 
 /** By what the length in a header is multiplied, by the story's version. */

@@ -278,6 +278,17 @@ export class Log {
         this.showEnd();
     }
 
+    /** The first line that is bold as a whole; "" where there is none. */
+    boldLine() {
+        for (const { text, ranges = [] } of this.blocks.flat())
+            for (const { from, to, styles } of ranges) {
+                const line = text.slice(text.lastIndexOf("\n", from - 1) + 1).split("\n")[0].trim();
+                if (styles.includes("bold") && line && line === text.slice(from, to).trim())
+                    return line;
+            }
+        return "";
+    }
+
     /** The story's text with the lines that were typed. */
     transcript() {
         const told = this.blocks.flat().filter(({ kind }) => kind === "text" || kind === "prompt" || kind === "typed");

@@ -39,16 +39,25 @@ function ofPlay() {
 
 /** Shows the part of the page for a play before anything is drawn or measured in it. */
 function opened() {
-    const name = play.story ? play.story.name : "zkit";
-    at("title").textContent = name;
-    document.title = `${name} · zkit`;
     closeWindows();
+    showTitle();
+    showPlay();
+}
+
+function showTitle() {
+    at("title").textContent = play.name();
+    at("title").title = play.story ? play.story.name : "";
+    document.title = `${play.name()} · zkit`;
+}
+
+function showPlay() {
     at("welcome").hidden = true;
     at("play").hidden = at("tools").hidden = false;
 }
 
 /** Shows and keeps what has changed in the play. */
 function changed() {
+    showTitle();
     at("script").hidden = play.script === "";
     if (isLink(location.hash))
         history.replaceState(null, "", location.href.replace(/#.*/, ""));
@@ -123,7 +132,11 @@ function choose() {
 
 function prepareButtons() {
     onClick("choose", choose);
-    onClick("open", choose);
+    onClick("open", () => opening.showFirst());
+    onClick("to-play", () => {
+        showPlay();
+        input.show();
+    });
     onClick("example", () => opening.open(example()));
     onClick("undo", () => play.undo());
     onClick("restart", () => opening.restart());

@@ -1,22 +1,22 @@
 // Opening: a story from a file, a play of a link, or what the reader had open before.
 
 import { isRead } from "./answers.js";
-import { agreed, at, bytesOf, field, fromBase64, tell } from "./at.js";
-import { lacking, wordsOnFile } from "./kinds.js";
+import { agreed, at, bytesOf, field, fromBase64, made, madeButton, tell } from "./at.js";
+import { lacking, titleOfBlorb, wordsOnFile } from "./kinds.js";
 import { isLink, playAt, playOf } from "./link.js";
 import { NotOpened } from "./machine.js";
 import { Left } from "./play.js";
-import { keepStory, keptPlay, lastPlay, seePlay, storyOf, tidy } from "./resume.js";
+import { allPlays, keepStory, keptPlay, lastPlay, seePlay, storyOf, storyOfPlay, tidy } from "./resume.js";
 import { sumOf } from "./sums.js";
 
 /** @typedef {import("./link.js").Shared} Shared */
 /** @typedef {import("./play.js").File} StoryFile */
 
-const EXAMPLE = { name: "lighthouse.z5", ifid: "ZCODE-1-261122-009F" };
+const EXAMPLE = { name: "lighthouse.z5", title: "The Lamp on Skärvø", ifid: "ZCODE-1-261122-009F" };
 const SEED = "1";
 
 export function example() {
-    return { name: EXAMPLE.name, bytes: fromBase64(at("example-bytes").textContent || "") };
+    return { name: EXAMPLE.name, title: EXAMPLE.title, bytes: fromBase64(at("example-bytes").textContent || "") };
 }
 
 /**
@@ -176,7 +176,7 @@ export class Opening {
         await trying(file.name, async () => {
             const story = await this.play.storyIn(bytes);
             if (story)
-                await this.openWhole({ name: file.name, bytes: story });
+                await this.openWhole({ name: file.name, title: titleOfBlorb(bytes), bytes: story });
             else
                 tell(`${file.name}: this Blorb file contains no story, or it was cut off.`, true);
         });
@@ -253,6 +253,39 @@ export class Opening {
         const last = await lastPlay();
         if (last)
             await this.goOn(last.story, last.play);
+        else
+            await this.showFirst();
+    }
+
+    /** Shows the first page, with the stories that were played here. */
+    async showFirst() {
+        const plays = await allPlays();
+        at("recent").hidden = plays.length === 0;
+        at("recent-list").replaceChildren(...plays.map((play) => {
+            const item = made("li");
+            item.append(madeButton("pick", "", () => this.continuePlay(play)));
+            const date = new Date(play.date).toLocaleString([], { dateStyle: "medium", timeStyle: "short" });
+            const words = `line ${play.answers.filter(isRead).length} · ${date}`;
+            item.children[0].append(made("b", "name", play.name || play.ifid), made("span", "", words));
+            return item;
+        }));
+        at("to-play").hidden = !this.play.story;
+        at("welcome").hidden = false;
+        at("play").hidden = at("tools").hidden = true;
+        if (this.play.story)
+            at("choose").focus();
+    }
+
+    /**
+     * Goes on with a play of the list on the first page.
+     * @param {import("./resume.js").Kept} play
+     */
+    async continuePlay(play) {
+        const story = await storyOfPlay(play);
+        if (story)
+            await trying(story.name, () => this.goOn(story, play));
+        else
+            tell("The story of this play is no longer here. Choose its file.", true);
     }
 
     /** Shows the play that is in the page's address, and takes it from there. */

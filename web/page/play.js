@@ -13,7 +13,7 @@ import { sumOf } from "./sums.js";
 /** @typedef {import("./machine.js").Standing} Standing */
 /** @typedef {import("./machine.js").About} About */
 /** @typedef {import("./resume.js").Kept} Kept */
-/** @typedef {{name: string, bytes: Uint8Array}} File */
+/** @typedef {{name: string, bytes: Uint8Array, title?: string}} File */
 
 /**
  * A place to go back to: how all stood at a read.
@@ -86,6 +86,8 @@ export class Play {
         this.ifid = "";
         this.sum = "";
         this.seed = "1";
+        /** The title that the story shows at its start. */
+        this.title = "";
         /** @type {Standing | null} */
         this.standing = null;
         this.isBusy = false;
@@ -141,6 +143,11 @@ export class Play {
         this.chain = "";
         this.turnText = "";
         this.lastRows = [];
+    }
+
+    /** What the story is called: by its file's own words, by its first bold line, or by its file's name. */
+    name() {
+        return this.story ? this.story.title || this.title || this.story.name : "zkit";
     }
 
     /** How many lines and keys the reader has given. */
@@ -298,6 +305,7 @@ export class Play {
         this.take(story, about, play.seed);
         this.empty();
         this.log.fill(play.log);
+        this.title = play.title || "";
         this.answers = play.answers;
         this.input.remember(play.answers);
         this.chain = play.chain;
@@ -318,7 +326,7 @@ export class Play {
         this.ifid = about.ifid;
         this.sum = sumOf(story.bytes);
         this.seed = seed;
-        this.script = "";
+        this.script = this.title = "";
         this.reader.opened();
     }
 
@@ -548,6 +556,10 @@ export class Play {
         this.lastRows = standing.box || standing.rows;
         if (standing.awaits === "stopped")
             return;
+        // (a story may await a key first; the name of a place is bold too)
+        const bold = this.reads() <= 1 && !this.title ? this.log.boldLine() : "";
+        if (bold && !standing.rows.some((row) => row.includes(bold)))
+            this.title = bold;
         this.here = {
             snapshot: standing.snapshot, answers: this.answers.length, log: this.log.mark(), chain: this.chain,
             script: this.script.length,
@@ -655,7 +667,7 @@ export class Play {
         if (!this.here || this.isBusy || (awaits !== "line" && awaits !== "character"))
             return null;
         return {
-            module, story: this.sum, ifid: this.ifid, seed: this.seed,
+            module, story: this.sum, ifid: this.ifid, seed: this.seed, title: this.title, name: this.name(),
             answers: this.answers.slice(0, this.here.answers), chain: this.here.chain,
             snapshot: this.here.snapshot, hasStates: true, log: this.log.kept(),
             box: this.lastRows, date: Date.now(),

@@ -21,6 +21,8 @@ import { sumOf } from "./sums.js";
  * @property {any} log
  * @property {string[]} box
  * @property {number} date
+ * @property {string} [title] the title that the story shows at its start
+ * @property {string} [name] what the story is called
  * @property {string} [page] the page that has kept it
  */
 
@@ -101,11 +103,19 @@ export async function keepPlay(play) {
     return "kept";
 }
 
-/** Forgets the oldest plays, and stories without one. */
-export async function tidy() {
+/**
+ * The plays that are kept, the newest first.
+ * @returns {Promise<Kept[]>}
+ */
+export async function allPlays() {
     const sums = (await names("plays")).filter((name) => name !== LAST);
     const plays = await Promise.all(sums.map((sum) => kept("plays", sum)));
-    const old = plays.filter((play) => play).sort((a, b) => b.date - a.date).slice(MOST);
+    return plays.filter((play) => play).sort((a, b) => b.date - a.date);
+}
+
+/** Forgets the oldest plays, and stories without one. */
+export async function tidy() {
+    const old = (await allPlays()).slice(MOST);
     await Promise.all(old.map((play) => forget("plays", play.story)));
     await Promise.all(old.map((play) => forget("stories", storyKey(play.ifid, play.story))));
 }
@@ -128,8 +138,18 @@ export async function lastPlay() {
     if (!last)
         return null;
     const play = await keptPlay(last.story);
-    const story = await kept("stories", storyKey(last.ifid, last.story));
-    return play && story && sumOf(story.bytes) === play.story ? { play, story } : null;
+    const story = play && await storyOfPlay(play);
+    return play && story ? { play, story } : null;
+}
+
+/**
+ * The story of a play; null where it is not kept, or has changed.
+ * @param {Kept} play
+ * @returns {Promise<Story | null>}
+ */
+export async function storyOfPlay(play) {
+    const story = await kept("stories", storyKey(play.ifid, play.story));
+    return story && sumOf(story.bytes) === play.story ? story : null;
 }
 
 /**

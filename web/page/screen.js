@@ -7,7 +7,7 @@ import { at, made } from "./at.js";
 
 const COLUMNS = 80;
 
-/** The smallest and the greatest height of the grid's letters, in pixels. */
+/** The smallest and the greatest height of the grid's letters, in pixels, the greatest one for text of medium size. */
 const SMALLEST = 11;
 const GREATEST = 14;
 
@@ -106,7 +106,8 @@ export class Screen {
     }
 
     drawRows() {
-        const size = Math.min(GREATEST, (upper.clientWidth - 24) / COLUMNS / 0.603);
+        const greatest = GREATEST * parseFloat(getComputedStyle(document.documentElement).fontSize) / 16;
+        const size = Math.min(greatest, (upper.clientWidth - 24) / COLUMNS / 0.603);
         const isBar = size < SMALLEST && this.rows.length <= 2 && this.rows.every((row) => parts(row).length <= 3);
         if (isBar) {
             upper.append(...this.rows.map((row) => this.bar(parts(row))));

@@ -369,7 +369,7 @@ async function script(page) {
     const story = readFileSync(z(5));
     story[17] |= 1;
     await page.drop(story, "scripted.z5");
-    await page.until(() => document.getElementById("title").textContent === "scripted.z5");
+    await page.until(() => document.getElementById("title").title === "scripted.z5");
     await page.rests();
     await page.sayAll(["open the bag", "inventory"]);
     const found = readFileSync(await page.fileAfter(() => page.menu("script")), "utf8");
@@ -479,7 +479,7 @@ async function blorbFile(page) {
     await page.fresh();
     const file = blorb(readFileSync(z(8)));
     await page.drop(file, "lighthouse.zblorb");
-    await page.until(() => document.getElementById("title").textContent === "lighthouse.zblorb");
+    await page.until(() => document.getElementById("title").title === "lighthouse.zblorb");
     await page.rests();
     holds((await page.text("scroller")).includes("Jetty"), "the story does not begin");
     await page.drop(file.subarray(0, 9000), "cut.zblorb");
@@ -775,7 +775,7 @@ async function wraps(page) {
         const tries = WRAPS.filter(([of]) => of === width);
         const parts = tries.map(([, line, next]) => `${line}\n${next}\n\n`);
         await page.drop(telling(`${"w".repeat(width)}\n\n${parts.join("")}>`), `wide${width}.z5`);
-        await page.until((name) => document.getElementById("title").textContent === name, `wide${width}.z5`);
+        await page.until((name) => document.getElementById("title").title === name, `wide${width}.z5`);
         await page.rests();
         const softs = await page.run(() => [...document.querySelectorAll("#scroller .soft")].map((it) => {
             const before = it.previousSibling.textContent.split("\n").pop();

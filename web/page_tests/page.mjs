@@ -252,7 +252,7 @@ export class Page {
     /** Opens a story by the page's field for files, and waits for its first read. */
     async open(path) {
         await this.choose(path);
-        await this.until((name) => document.getElementById("title").textContent === name, basename(path));
+        await this.until((name) => document.getElementById("title").title === name, basename(path));
         await this.rests();
     }
 

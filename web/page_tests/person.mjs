@@ -2,7 +2,8 @@
 // is done by keys, the mouse and fingers of the browser.
 
 import { EXAMPLES, MENU, holds, join, native, pause, readFileSync, same } from "./page.mjs";
-import { counting, telling } from "./stories.mjs";
+import { blorb } from "./keeping.mjs";
+import { counting, telling, titled } from "./stories.mjs";
 
 const Z5 = join(EXAMPLES, "lighthouse.z5");
 
@@ -230,7 +231,7 @@ async function goesFromNearest(page) {
 async function stopsRepeating(page) {
     await page.fresh();
     await page.drop(counting("Done.\n>"), "counts.z5");
-    await page.until(() => document.getElementById("title").textContent === "counts.z5");
+    await page.until(() => document.getElementById("title").title === "counts.z5");
     await page.rests();
     const file = await sharedFile(page);
     const answers = Array.from({ length: 99 }, (_, i) => `line ${i}`);
@@ -479,7 +480,7 @@ async function blankStart(page) {
     for (const [i, gap] of ["", "\n\n\n\n \n\n"].entries()) {
         const text = `${gap}A room.\n\n\nA door.\n>`;
         await page.drop(telling(text), `blank${i}.z5`);
-        await page.until((name) => document.getElementById("title").textContent === name, `blank${i}.z5`);
+        await page.until((name) => document.getElementById("title").title === name, `blank${i}.z5`);
         await page.rests();
         const [from, to] = await page.run(() => {
             const it = document.querySelector("#scroller .text");
@@ -565,7 +566,7 @@ async function dropsClose(page) {
         await page.click(`#${button}`);
         await page.until(isOpen);
         await page.drop(readFileSync(Z5), "dropped.z5");
-        await page.until(() => document.getElementById("title").textContent === "dropped.z5");
+        await page.until(() => document.getElementById("title").title === "dropped.z5");
         await goneOn(page);
         await typesOn(page, "look", `after a drop over the window of ${button}`);
     }
@@ -612,11 +613,11 @@ async function otherFiles(page) {
     const story = readFileSync(Z5);
     const glulx = Buffer.concat([Buffer.from("Glul"), Buffer.alloc(500)]);
     const chunk = Buffer.concat([Buffer.from("GLUL\0\0\0\x04"), glulx.subarray(0, 4)]);
-    const blorb = Buffer.concat([Buffer.from("FORM\0\0\0\x1aIFRSAUTH\0\0\0\x01a\0"), chunk]);
+    const other = Buffer.concat([Buffer.from("FORM\0\0\0\x1aIFRSAUTH\0\0\0\x01a\0"), chunk]);
     const tries = [
         [readFileSync(`${Z5}.dfrotz`), "game.qzl", "this is a saved game. Open its story, and restore it there."],
         [glulx, "other.ulx", "not a story: it is a Glulx story, which is for another machine"],
-        [blorb, "other.gblorb", "this Blorb file contains a Glulx story, which is for another machine."],
+        [other, "other.gblorb", "this Blorb file contains a Glulx story, which is for another machine."],
     ];
     const cut = story.subarray(0, story.length - 1000);
     const whole = story.readUInt16BE(0x1a) * 4;
@@ -675,6 +676,121 @@ async function twoTabs(page) {
     await page.browser.goTo(one, true);
 }
 
+/** The head shows what a story is called: by its Blorb file, by its first bold line, or else by its file's name. */
+async function titles(page) {
+    const metadata = `<?xml version="1.0"?><ifindex xmlns="http://babel.ifarchive.org/protocol/iFiction/"><story>
+        <bibliographic><title>Salt &amp; Sky</title></bibliographic></story></ifindex>`;
+    const tries = [
+        [titled("A BOLD TALE", "Once.\n>"), "bold.z5", "A BOLD TALE"], [telling("Once.\n>"), "plain.z5", "plain.z5"],
+        [blorb(titled("A BOLD TALE", "Twice.\n>"), metadata), "salt.zblorb", "Salt & Sky"],
+        [titled("Bold", " words.\n>"), "words.z5", "Bold"],
+    ];
+    await page.fresh();
+    for (const [story, name, wanted] of tries) {
+        await page.drop(story, name);
+        await page.until((it) => document.getElementById("title").title === it, name);
+        await page.rests();
+        same(await page.text("title"), wanted, `the head of ${name}`);
+        same(await page.run(() => document.title), `${wanted} · zkit`, `the title of the page with ${name}`);
+    }
+    await page.drop(tries[2][0], "salt.zblorb");
+    if (await page.isShown("asking"))
+        await page.click("#asking-yes");
+    await page.say("look");
+    await page.keeps(1);
+    await page.reload();
+    await page.rests();
+    same(await page.text("title"), "Salt & Sky", "the head after a reload");
+}
+
+/** The first page lists what was played here, the newest first; one of these is gone on with by the mouse or a finger. */
+async function recentStories(page) {
+    const listed = () => page.run(() => [...document.querySelectorAll("#recent-list .name")].map((it) => it.textContent).join());
+    await page.fresh();
+    same(await page.isShown("recent"), false, "whether a list of nothing is shown");
+    await page.click("#example");
+    await page.rests();
+    await page.sayAll(WALK);
+    await page.keeps(WALK.length);
+    await page.open(MENU);
+    await page.say("hello");
+    await page.keeps(1);
+    for (const [how, choose] of Object.entries(LEAVES)) {
+        await page.menu("open");
+        await page.shown("recent");
+        same(await listed(), "menu.z5,The Lamp on Skärvø", "the stories that were played");
+        same((await page.focus()).split(" ")[0], "choose", "the focus on the first page");
+        await choose(page, "#to-play");
+        await page.shown("play");
+        await typesOn(page, "hello", `back in the play by ${how}`);
+        await page.menu("open");
+        await choose(page, "#recent-list li:last-child button");
+        await page.until(() => document.getElementById("title").title === "lighthouse.z5");
+        await page.rests();
+        same(await page.text("title"), "The Lamp on Skärvø", "the head");
+        holds(await page.newestIsSeen(), `the newest turn is not seen after a story was chosen by ${how}`);
+        await typesOn(page, "look", `after a story was chosen by ${how}`);
+        await page.menu("open");
+        await choose(page, "#recent-list li:last-child button");
+        await page.until(() => document.getElementById("title").title === "menu.z5");
+        await page.rests();
+        await page.say("hello");
+    }
+}
+
+/** The page says which zkit it is and under which licences; no sentence of it stands twice. */
+async function wordsOfPage(page) {
+    await page.fresh();
+    const sentences = await page.run(() => {
+        const blocks = [...document.querySelectorAll("p, li, h1, h2, h3")].map((it) => it.textContent.replace(/\s+/g, " ").trim());
+        return blocks.flatMap((it) => it.split(/(?<=[.!?:]) /)).filter((it) => it.split(" ").length > 3);
+    });
+    const twice = sentences.filter((it, i) => sentences.indexOf(it) !== i);
+    same(twice.join("|"), "", "the sentences that stand twice");
+    const clauses = sentences.flatMap((it) => it.match(/Only a deterministic interpreter/g) ?? []);
+    holds(clauses.length < 2, "a promise stands twice");
+    const words = `${native(["--version"]).text.trim()}. You may use it under the MIT License or the Apache License 2.0.`;
+    holds((await page.text("welcome")).includes(words), await page.text("welcome"));
+}
+
+/** In the page: how many letters the lines of the story's first text have, but for the last one. */
+function lettersInPage() {
+    const text = document.querySelector("#scroller .text").firstChild;
+    const range = document.createRange();
+    const tops = new Map();
+    for (let i = 0; i < text.length; i++) {
+        range.setStart(text, i);
+        range.setEnd(text, i + 1);
+        const { top } = range.getBoundingClientRect();
+        tops.set(top, (tops.get(top) ?? 0) + 1);
+    }
+    return [...tops.values()].slice(0, -2);
+}
+
+/** A line of the story has 65 to 75 letters where there is room, and text of another size is so for all of the page. */
+async function measure(page) {
+    const words = `${"The path winds between rocks and heather, and north of it stands the lighthouse of the island. ".repeat(9)}\n>`;
+    await page.fresh();
+    await page.drop(telling(words), "long.z5");
+    await page.until(() => document.getElementById("title").title === "long.z5");
+    await page.rests();
+    const letters = await page.run(lettersInPage);
+    const mean = letters.reduce((sum, it) => sum + it, 0) / letters.length;
+    holds(mean >= 65 && mean <= 75, `a line has ${mean} letters`);
+    const sizes = () => page.run(() => ["title", "show-menu", "scroller", "line", "asked", "enter"].map((id) =>
+        parseFloat(getComputedStyle(document.getElementById(id)).fontSize)));
+    const before = await sizes();
+    await page.click("#show-menu");
+    await page.click("#size");
+    for (const key of ["End", "Enter"])
+        await page.browser.press(key);
+    await page.until(() => document.getElementById("size").value === "1.5");
+    const after = await sizes();
+    same(after.map((it, i) => Math.round(10 * it / before[i])).join(), before.map(() => 15).join(), "the sizes of letters");
+    await page.leave();
+    return `${Math.round(mean)} letters`;
+}
+
 export const PERSON = [
     ["typing after a game was saved", typesAfterSaving],
     ["typing at once after a game was saved", typesAtOnce],
@@ -700,4 +816,8 @@ export const PERSON = [
     ["saved games are restored from the menu", restoresFromMenu],
     ["files that are no whole stories", otherFiles],
     ["two tabs of one story", twoTabs],
+    ["the head has the story's title", titles],
+    ["stories that were played here", recentStories],
+    ["the words of the page", wordsOfPage],
+    ["the measure and the size of text", measure],
 ];

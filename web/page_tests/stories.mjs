@@ -59,6 +59,12 @@ export function styled() {
         ...hi, 0xba]);
 }
 
+/** A story that prints a line in bold and a text in roman, and then reads lines. */
+export function titled(title, text) {
+    const style = (number) => [0xf1, 0x7f, number];
+    return storyOf([...style(2), ...printed(title), ...style(0), ...printed(`\n${text}`), ...READ, ...jumpBack(READ.length)]);
+}
+
 /** A story that reads a line, and then saves again and again, whatever is answered. */
 export function asking() {
     return storyOf([...printed(">"), ...READ, 0xbe, 0x00, 0xff, 0x10, ...jumpBack(4)]);

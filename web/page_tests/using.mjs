@@ -13,7 +13,7 @@ const lineNow = () => document.getElementById("line").value;
 /** Drops a story, and waits for its first read. */
 async function play(page, story, name) {
     await page.drop(story, name);
-    await page.until((title) => document.getElementById("title").textContent === title, name);
+    await page.until((title) => document.getElementById("title").title === title, name);
     await page.rests();
 }
 
@@ -190,7 +190,7 @@ async function leftQuestion(page) {
     await page.say("go");
     await page.shown("saving");
     await page.drop(readFileSync(MENU), "menu.z5");
-    await page.until(() => document.getElementById("title").textContent === "menu.z5");
+    await page.until(() => document.getElementById("title").title === "menu.z5");
     await page.until(() => document.getElementById("scroller").textContent.includes("A hall."));
     await page.leave();
     await page.rests();
@@ -270,7 +270,7 @@ async function continues(page) {
         await page.asks("Continue?", "Continue where I was", "Start over");
         same(await page.text("asking-words"), "You have played this story here before.");
         await page.click(`#${button}`);
-        await page.until(() => document.getElementById("title").textContent === "menu.z5");
+        await page.until(() => document.getElementById("title").title === "menu.z5");
         await page.rests();
         same(await page.transcript(), wanted, `the transcript after ${button}`);
     }
@@ -287,7 +287,7 @@ async function twelvePlays(page) {
     await page.drop(story(1), "story1.z5");
     await page.shown("asking");
     await page.click("#asking-yes");
-    await page.until(() => document.getElementById("title").textContent === "story1.z5");
+    await page.until(() => document.getElementById("title").title === "story1.z5");
     await page.rests();
     await play(page, story(0), "story0.z5");
     same(await page.run(() => document.querySelector("dialog[open]")?.id ?? ""), "", "the window at a play that is not kept");
@@ -321,7 +321,7 @@ async function otherStory(page) {
     await page.until(() => document.getElementById("invitation").textContent.includes("IFID"));
     await page.choose(Z5);
     await page.click("#asking-yes");
-    await page.until(() => document.getElementById("title").textContent === "lighthouse.z5");
+    await page.until(() => document.getElementById("title").title === "lighthouse.z5");
     await page.rests();
     same(await page.transcript(), native(["play", Z5]).text, "the transcript of the other story");
 }
@@ -515,7 +515,7 @@ async function meanings(page) {
         const notes = native(["check", "--notes", file]).text.trimEnd().split("\n");
         const wanted = notes.map((line) => `${line.split(" ")[0]}: ${line.replace(/^.*?; (object \d+: )?/, "")}`);
         await page.drop(bytes, basename(file));
-        await page.until((name) => document.getElementById("title").textContent === name, basename(file));
+        await page.until((name) => document.getElementById("title").title === name, basename(file));
         await page.click("#show-inside");
         await page.until(() => document.getElementById("panel").getAttribute("aria-busy") === "false");
         const found = await page.run(() => [...document.querySelectorAll("#drawing li")].map((it) => it.textContent));
