@@ -596,6 +596,8 @@ export class Play {
         if (reads)
             this.input.await(awaits, this.log.held, standing.longest);
         speak(reads ? news : [...news, this.showStop(standing)]);
+        // (what stands below the text may have come or gone)
+        this.log.resized();
         this.reader.changed();
     }
 

@@ -58,23 +58,22 @@ function newestIsSeen() {
  */
 function hearInPage() {
     window.spoken = [];
-    const seen = new WeakSet();
     const regionOf = (node) => (node.nodeType === Node.TEXT_NODE ? node.parentElement : node)?.closest("[aria-live], [role=log], [role=status]");
     const speak = (region, text) => {
         if (region && region.getClientRects().length && !region.closest("[aria-busy=true]") && text)
             window.spoken.push([region.id, text]);
     };
     new MutationObserver((changes) => {
+        // (what was added with its parent is spoken with it)
+        const seen = new Set();
         for (const { target, addedNodes } of changes) {
             if (target.nodeType === Node.TEXT_NODE)
                 speak(regionOf(target), target.data);
-            // (what was added with its parent is spoken with it)
             for (const node of addedNodes)
                 if (target.isConnected && !seen.has(target))
                     speak(regionOf(target), node.textContent);
             for (const node of addedNodes)
-                for (const it of node.querySelectorAll?.("*") ?? [])
-                    seen.add(it), setTimeout(() => seen.delete(it), 0);
+                [node, ...node.querySelectorAll?.("*") ?? []].forEach((it) => seen.add(it));
         }
     }).observe(document.body, { childList: true, characterData: true, subtree: true });
 }

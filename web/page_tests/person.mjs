@@ -694,8 +694,8 @@ async function titles(page) {
         same(await page.run(() => document.title), `${wanted} · zkit`, `the title of the page with ${name}`);
     }
     await page.drop(tries[2][0], "salt.zblorb");
-    if (await page.isShown("asking"))
-        await page.click("#asking-yes");
+    await page.until(() => document.getElementById("title").title === "salt.zblorb");
+    await page.rests();
     await page.say("look");
     await page.keeps(1);
     await page.reload();
