@@ -19,6 +19,7 @@ import sys
 WEB = pathlib.Path(__file__).resolve().parent
 PAGE = WEB / "page"
 EXAMPLE = WEB.parent / "examples" / "lighthouse.z5"
+HEADER = WEB.parent / "include" / "zkit.h"
 IMPORT = re.compile(r'^import \{([^}]*)\} from "(\.[^"]+)";\n', re.MULTILINE)
 EXPORT = re.compile(r"^export (?=(?:async function|function|class|const) (\w+))", re.MULTILINE)
 LEFT_OVER = re.compile(r"^(?:import|export)\b.*", re.MULTILINE)
@@ -71,6 +72,14 @@ def data(name: str, content: str) -> str:
     return f'<script type="text/plain" id="{name}">{content}</script>\n'
 
 
+def version() -> str:
+    """The version of zkit, by its header: 0x000100 is 0.1.0."""
+    found = re.search(r"^#define ZKIT_VERSION 0x(\w\w)(\w\w)(\w\w)$", HEADER.read_text(encoding="utf-8"), re.MULTILINE)
+    if not found:
+        raise SystemExit(f"make_page.py: {HEADER.name} has no version")
+    return ".".join(str(int(part, 16)) for part in found.groups())
+
+
 def page(module: bytes) -> str:
     """The whole page."""
     style = (PAGE / "page.css").read_text(encoding="utf-8")
@@ -78,6 +87,7 @@ def page(module: bytes) -> str:
     policy = (f"default-src 'none'; script-src {digest(script)} 'wasm-unsafe-eval'; style-src {digest(style)}; "
               "worker-src blob:; img-src data:; base-uri 'none'; form-action 'none'")
     parts = {
+        "ZKIT_VERSION": version(),
         '<meta name="policy">': f'<meta http-equiv="Content-Security-Policy" content="{policy}">',
         '<link rel="stylesheet" href="page.css">': f"<style>{style}</style>",
         '<script src="main.js"></script>':

@@ -92,6 +92,12 @@ export async function agreed(head, words, yes = "Yes", no = "No") {
     return await closed(dialog("asking")) === "yes";
 }
 
+/** Closes all windows; a question is answered by no. */
+export function closeWindows() {
+    for (const it of /** @type {NodeListOf<HTMLDialogElement>} */ (document.querySelectorAll("dialog[open]")))
+        it.close();
+}
+
 /**
  * Says something short in the page's line for it.
  * @param {string} words
@@ -100,6 +106,14 @@ export async function agreed(head, words, yes = "Yes", no = "No") {
 export function tell(words, isAlarm = false) {
     at("told").textContent = words;
     at("told").classList.toggle("alarm", isAlarm);
+}
+
+/**
+ * Says something to a screen reader alone, of what is seen elsewhere.
+ * @param {string[]} words
+ */
+export function speak(words) {
+    at("spoken").textContent = words.join(" ");
 }
 
 /**

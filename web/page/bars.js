@@ -27,13 +27,21 @@ export function showPaused(words, hasWayBack) {
 }
 
 /**
- * Says that the story has ended, and why.
+ * How a story has ended, and why.
  * @param {import("./machine.js").Standing} standing
+ */
+export function wordsOfEnd({ words, last }) {
+    return last ? `The story has stopped: ${words || last} (${last}).` : "The story has ended.";
+}
+
+/**
+ * Says that the story has ended.
+ * @param {string} words
  * @param {boolean} hasWayBack
  */
-export function showOver({ words, last }, hasWayBack) {
+export function showOver(words, hasWayBack) {
     at("over").hidden = false;
-    at("over-words").textContent = last ? `The story has stopped: ${words || last} (${last}).` : "The story has ended.";
+    at("over-words").textContent = words;
     at("over-back").hidden = !hasWayBack;
     at("over-again").focus();
 }

@@ -28,9 +28,12 @@ export class Input {
         this.early = [];
         form.addEventListener("submit", (event) => this.submit(event));
         line.addEventListener("input", () => this.takeCharacter());
+        document.addEventListener("paste", (event) => this.paste(event));
         line.addEventListener("keydown", (event) => this.keyInLine(event));
         at("space").addEventListener("click", () => this.give(SPACE));
         document.addEventListener("keydown", (event) => this.keyAnywhere(event));
+        line.addEventListener("focus", putCaret);
+        document.addEventListener("close", putCaret, true);
     }
 
     /**
@@ -44,6 +47,7 @@ export class Input {
         this.awaits = what;
         at("prompt").textContent = isLine && words && words.length <= SHORT ? words : "›";
         at("asked").textContent = !isLine ? "Press a key" : words.length > SHORT ? words : "What do you do?";
+        at("asked").classList.toggle("usual", isLine && words.length <= SHORT);
         at("space").hidden = isLine;
         line.maxLength = isLine ? Math.max(1, longest) : LONGEST;
         this.place = this.lines.length;
@@ -69,8 +73,7 @@ export class Input {
         if (document.querySelector("dialog[open]"))
             return;
         line.focus({ preventScroll: true });
-        // (Chromium gives the focus back where a window is closed by the mouse, but not the caret)
-        line.setSelectionRange(line.selectionStart, line.selectionEnd);
+        putCaret();
     }
 
     /** Awaits nothing for now; what is typed meanwhile stays. */
@@ -114,6 +117,26 @@ export class Input {
             this.early.push(text);
     }
 
+    /**
+     * Sends each line of a text that is pasted where nothing else takes it; what stands behind the last line end stays
+     * in the field.
+     * @param {ClipboardEvent} event
+     */
+    paste(event) {
+        const text = event.clipboardData ? event.clipboardData.getData("text/plain") : "";
+        const [first, ...rest] = text.split(/\r\n|\r|\n/);
+        const isHere = document.activeElement === line;
+        if (form.hidden || this.awaits === "character" || isHere && rest.length === 0
+            || !isHere && isTaken(/** @type {HTMLElement} */ (event.target), 0))
+            return;
+        event.preventDefault();
+        line.focus({ preventScroll: true });
+        line.setRangeText(first, line.selectionStart || 0, line.selectionEnd || 0, "end");
+        const lines = [line.value, ...rest].map((it) => it.slice(0, line.maxLength));
+        line.value = lines.pop() || "";
+        lines.forEach((it) => this.takeLine(it));
+    }
+
     /** Gives the first character of the field to a story that awaits one; those after it wait for the next time. */
     takeCharacter() {
         const [first, ...rest] = line.value;
@@ -145,7 +168,7 @@ export class Input {
     keyAnywhere(event) {
         const target = /** @type {HTMLElement} */ (event.target);
         const code = codeOf(event);
-        if (code === null || !this.awaits || isTaken(target, code))
+        if (code === null || !this.awaits || at("play").hidden || isTaken(target, code))
             return;
         if (this.awaits === "character") {
             event.preventDefault();
@@ -154,6 +177,12 @@ export class Input {
             line.focus({ preventScroll: true });
         }
     }
+}
+
+/** Where a window is closed by the mouse, Chromium gives the focus back to the line, but not the caret. */
+function putCaret() {
+    if (document.activeElement === line)
+        line.setSelectionRange(line.selectionStart, line.selectionEnd);
 }
 
 /**

@@ -12,6 +12,10 @@ import { fromBase64, toBase64 } from "./at.js";
 export const LONGEST_LINK = 8192;
 const LONGEST_PLAY = 4000000;
 const LONGEST_WORD = 300;
+
+/** No story takes a longer line, and so many answers are repeated in some seconds. */
+const LONGEST_LINE = 255;
+const MOST_ANSWERS = 20000;
 const LAST_CHARACTER = 0x10ffff;
 const FRONT = "#play=";
 
@@ -98,17 +102,42 @@ function isAnswer(it) {
 }
 
 /**
- * A play of a text that anybody may have made; null where it is none.
+ * Why answers are not given to a story; "" where they may be.
+ * @param {any} answers
+ */
+function faultOfAnswers(answers) {
+    if (!Array.isArray(answers) || !answers.every(isAnswer))
+        return "it is damaged";
+    if (answers.length > MOST_ANSWERS)
+        return `it has more than ${MOST_ANSWERS.toLocaleString("en")} lines and keys`;
+    const lines = answers.filter((it) => typeof it === "string");
+    if (lines.some((line) => line.length > LONGEST_LINE))
+        return `it has a line of more than ${LONGEST_LINE} characters`;
+    return lines.some((line) => /[\n\r]/.test(line)) ? "it has a line end inside a line" : "";
+}
+
+/**
+ * Why something is not shown as a play that was shared; "" where it is one.
+ * @param {any} it
+ */
+function faultOf(it) {
+    if (it.zkit !== 1)
+        return "it was made by another version of this page";
+    const words = [it.ifid, it.name, it.story, it.seed, it.told];
+    const isWhole = words.every((one) => typeof one === "string" && one.length <= LONGEST_WORD)
+        && /^\d{1,20}$/.test(it.seed);
+    return isWhole ? faultOfAnswers(it.answers) : "it is damaged";
+}
+
+/**
+ * The play of a text that anybody may have made, or in words why it is not shown; null where it is no play at all.
  * @param {string} text
- * @returns {Shared | null}
+ * @returns {Shared | string | null}
  */
 export function playOf(text) {
     try {
         const it = JSON.parse(text);
-        const words = [it.ifid, it.name, it.story, it.seed, it.told];
-        const isPlay = it.zkit === 1 && words.every((one) => typeof one === "string" && one.length <= LONGEST_WORD)
-            && /^\d{1,20}$/.test(it.seed) && Array.isArray(it.answers) && it.answers.every(isAnswer);
-        return isPlay ? it : null;
+        return it.zkit === undefined ? null : faultOf(it) || it;
     } catch {
         return null;
     }
@@ -120,7 +149,8 @@ export function isLink(hash) {
 }
 
 /**
- * The play of an address; null where there is none in it, or the browser can't unpack it.
+ * The play of an address, or in words why it is not shown; null where there is none in it, or the browser can't unpack
+ * it.
  * @param {string} hash
  */
 export async function playAt(hash) {

@@ -8,13 +8,17 @@ import { Width } from "./reflow.js";
 /** @typedef {import("./machine.js").Run} Run */
 /** @typedef {{from: number, to: number, styles: string[]}} Range a part of a text that is not in roman */
 /** @typedef {{kind: Kind, text: string, ranges?: Range[]}} Piece */
-/** @typedef {{blocks: number, held: string}} Mark */
+/** @typedef {{blocks: number, held: string, turn: number}} Mark */
+/** @typedef {{blocks: Piece[][], held: string, turn?: number}} KeptLog what a reload has; once it had no turn */
 
 /** So many characters a block has at most, about. */
 const BLOCK = 6000;
 
 /** So many blocks stand in the page, and so many more come at a time. */
 const SHOWN = 40;
+
+/** After so many milliseconds the text of a story that still runs is drawn. */
+const SOON = 100;
 
 /** So many characters are kept for a reload at most. */
 const KEPT = 1000000;
@@ -31,14 +35,16 @@ function endOfPart(text, most) {
 }
 
 /**
- * The parts of a line that stand in one style each. The line begins at an index of its text.
+ * The parts of a line that stand in one style each. The line begins at an index of its text, of which the first
+ * characters are left out.
  * @param {string} line
  * @param {number} begin
  * @param {Range[]} ranges
+ * @param {number} drawn
  */
-function styled(line, begin, ranges) {
+function styled(line, begin, ranges, drawn) {
     const parts = [];
-    let done = 0;
+    let done = Math.min(line.length, Math.max(0, drawn - begin));
     for (const { from, to, styles } of ranges) {
         const start = Math.max(from - begin, done);
         const end = Math.min(to - begin, line.length);
@@ -51,7 +57,25 @@ function styled(line, begin, ranges) {
     return parts.filter((part) => part !== "");
 }
 
+/**
+ * What a reader looks at, by how far the text is scrolled, and how far it was for the newest turn and can be at most.
+ * @param {number} top
+ * @param {number} turn
+ * @param {number} bottom
+ * @returns {"turn" | "end" | "before"}
+ */
+function lookedAt(top, turn, bottom) {
+    if (Math.abs(top - turn) < 2)
+        return "turn";
+    return top > bottom - 2 ? "end" : "before";
+}
+
 const scroller = at("scroller");
+
+function sizeOfView() {
+    return `${scroller.clientWidth} ${scroller.clientHeight}`;
+}
+
 const older = at("older");
 const log = at("log");
 
@@ -62,13 +86,22 @@ export class Log {
         /** The part of a line after which the story reads. */
         this.held = "";
         this.width = new Width();
-        /** The first block that stands in the page, and the first in the part for screen readers. */
+        /** The first block that stands in the page, and the first in the part whose additions are spoken. */
         this.first = 0;
         this.firstNew = 0;
         /** The block that the newest answer began. */
         this.turn = 0;
         this.isDue = false;
+        /** Whether nothing is drawn: a play is repeated. */
+        this.isStill = false;
+        /** How far the text was scrolled for the newest turn, and what the reader looks at since. */
+        this.top = 0;
+        /** @type {"turn" | "end" | "before"} */
+        this.look = "turn";
+        /** The size of the view when that was noted. */
+        this.size = sizeOfView();
         scroller.addEventListener("scroll", () => this.scrolled());
+        new ResizeObserver(() => this.resized()).observe(scroller);
     }
 
     clear() {
@@ -76,6 +109,7 @@ export class Log {
         this.held = "";
         this.width = new Width();
         this.first = this.firstNew = this.turn = 0;
+        this.isStill = false;
         older.replaceChildren();
         log.replaceChildren();
     }
@@ -93,8 +127,10 @@ export class Log {
         if (!piece || piece.kind !== kind || kind !== "text")
             block.push(piece = { kind, text: "" });
         piece.text += text;
-        if (styles.length > 0)
-            (piece.ranges ||= []).push({ from: piece.text.length - text.length, to: piece.text.length, styles });
+        if (styles.length > 0) {
+            piece.ranges = piece.ranges || [];
+            piece.ranges.push({ from: piece.text.length - text.length, to: piece.text.length, styles });
+        }
         this.due();
     }
 
@@ -184,13 +220,14 @@ export class Log {
         this.turn = this.blocks.length - 1;
     }
 
-    /**
-     * Adds the page's own words.
-     * @param {string} words
-     */
-    note(words) {
-        this.newBlock();
-        this.add("note", words);
+    /** Begins the part that the page's Undo brings, behind the prompt that it answers. */
+    undone() {
+        if (this.held)
+            this.release();
+        else
+            this.newBlock();
+        this.turn = this.blocks.length - 1;
+        this.add("note", "(Undo)\n");
     }
 
     /**
@@ -204,7 +241,7 @@ export class Log {
 
     /** @returns {Mark} */
     mark() {
-        return { blocks: this.blocks.length, held: this.held };
+        return { blocks: this.blocks.length, held: this.held, turn: this.turn };
     }
 
     /**
@@ -214,27 +251,42 @@ export class Log {
     cut(mark) {
         this.blocks.length = Math.min(this.blocks.length, mark.blocks);
         this.held = mark.held;
-        this.turn = Math.max(0, this.blocks.length - 1);
-        this.showEnd();
+        this.turn = mark.turn;
+        this.isStill = true;
     }
 
-    /** The newest text, for a reload. */
+    /**
+     * The newest text, for a reload.
+     * @returns {KeptLog}
+     */
     kept() {
         let size = 0;
         let first = this.blocks.length;
         while (first > 0 && size < KEPT)
             size += this.blocks[--first].reduce((sum, piece) => sum + piece.text.length, 0);
-        return { blocks: this.blocks.slice(first), held: this.held };
+        return { blocks: this.blocks.slice(first), held: this.held, turn: Math.max(0, this.turn - first) };
     }
 
-    /** @param {{blocks: Piece[][], held: string}} it */
+    /** @param {KeptLog} it */
     fill(it) {
         this.clear();
         this.blocks = it.blocks;
         this.held = it.held;
+        this.turn = it.turn ?? Math.max(0, it.blocks.length - 1);
         for (const piece of it.blocks.flat().filter((one) => one.kind === "text"))
             this.width.see(piece.text);
         this.showEnd();
+    }
+
+    /** The first line that is bold as a whole; "" where there is none. */
+    boldLine() {
+        for (const { text, ranges = [] } of this.blocks.flat())
+            for (const { from, to, styles } of ranges) {
+                const line = text.slice(text.lastIndexOf("\n", from - 1) + 1).split("\n")[0].trim();
+                if (styles.includes("bold") && line && line === text.slice(from, to).trim())
+                    return line;
+            }
+        return "";
     }
 
     /** The story's text with the lines that were typed. */
@@ -243,106 +295,201 @@ export class Log {
         return told.map((piece) => piece.text).join("") + this.held;
     }
 
-    /** Draws soon what has changed. */
+    /** Draws soon what has changed, if the story runs so long. */
     due() {
-        if (this.isDue)
+        if (this.isDue || this.isStill)
             return;
         this.isDue = true;
         setTimeout(() => {
-            this.isDue = false;
-            this.draw();
-        }, 0);
+            if (this.isDue && !this.isStill)
+                this.draw(false);
+        }, SOON);
     }
 
-    /** Draws the newest blocks that do not stand in the page yet, and the last one anew. */
-    draw() {
-        const isLow = scroller.scrollHeight - scroller.scrollTop - scroller.clientHeight < 80;
-        const shown = log.children.length;
-        const from = Math.max(this.firstNew, this.firstNew + shown - 1);
-        if (this.blocks.length - from > 2 * SHOWN) {
+    /**
+     * Draws what does not stand in the page yet. What stands there is not touched, so that all is spoken once.
+     * @param {boolean} [isWhole] whether that is all; of a story that runs, its last line may go on
+     */
+    draw(isWhole = true) {
+        this.isDue = false;
+        const last = this.firstNew + log.children.length - 1;
+        if (this.isStill || this.blocks.length - last > 2 * SHOWN) {
             this.showEnd();
             return;
         }
-        if (shown > 0)
-            this.drawBlock(from, /** @type {HTMLElement} */ (log.lastElementChild));
-        for (let i = this.firstNew + shown; i < this.blocks.length; i++)
-            log.append(this.drawBlock(i, made("div", "turn")));
-        if (isLow || this.turn >= from || log.children.length > 2 * SHOWN)
+        const isLow = this.bottom() - scroller.scrollTop < 80;
+        if (last >= this.first)
+            this.drawBlock(last, /** @type {HTMLElement} */ (this.elementOf(last)), isWhole);
+        for (let i = last + 1; i < this.blocks.length; i++)
+            log.append(this.drawBlock(i, made("div", "turn"), isWhole));
+        if (isLow || this.turn >= last || log.children.length > 2 * SHOWN)
             this.trim();
         this.goToTurn();
     }
 
-    /** Shows the newest blocks alone. */
+    /** Shows the newest blocks alone, which are not new: nothing of them is spoken. */
     showEnd() {
-        this.first = this.firstNew = Math.max(0, this.blocks.length - SHOWN);
-        older.replaceChildren();
+        this.isStill = false;
+        this.first = Math.max(0, this.blocks.length - SHOWN);
+        this.firstNew = this.blocks.length;
         log.replaceChildren();
-        for (let i = this.firstNew; i < this.blocks.length; i++)
-            log.append(this.drawBlock(i, made("div", "turn")));
+        older.replaceChildren(...this.drawn(this.first, this.firstNew));
         this.goToTurn();
     }
 
     /** Takes out what is no longer looked at. */
     trim() {
-        older.replaceChildren();
-        while (log.children.length > SHOWN && log.firstElementChild) {
-            log.firstElementChild.remove();
-            this.firstNew++;
+        while (older.children.length + log.children.length > SHOWN) {
+            const it = older.firstElementChild || log.firstElementChild;
+            if (it && it.parentElement === log)
+                this.firstNew++;
+            this.first++;
+            it?.remove();
         }
-        this.first = this.firstNew;
+    }
+
+    /**
+     * The element of a block; null where it does not stand in the page.
+     * @param {number} i
+     */
+    elementOf(i) {
+        const it = i < this.firstNew ? older.children[i - this.first] : log.children[i - this.firstNew];
+        return /** @type {HTMLElement | null} */ (it || null);
+    }
+
+    /**
+     * New elements of blocks.
+     * @param {number} from
+     * @param {number} to
+     */
+    drawn(from, to) {
+        return this.blocks.slice(from, to).map((_, i) => this.drawBlock(from + i, made("div", "turn")));
+    }
+
+    /** How far the text can be scrolled. */
+    bottom() {
+        return scroller.scrollHeight - scroller.clientHeight;
     }
 
     /** Scrolls so that the newest answer's text is read from its start. */
     goToTurn() {
-        const element = /** @type {HTMLElement | null} */ (log.children[this.turn - this.firstNew] || null);
-        const bottom = scroller.scrollHeight - scroller.clientHeight;
-        scroller.scrollTop = element ? Math.min(bottom, element.offsetTop - scroller.offsetTop - 16) : bottom;
+        const element = this.elementOf(this.turn);
+        const turn = element ? element.offsetTop - scroller.offsetTop - 16 : Infinity;
+        scroller.scrollTop = Math.min(this.bottom(), turn);
+        this.top = scroller.scrollTop;
+        this.look = "turn";
+    }
+
+    /** Keeps in view what the reader looks at where the view grows or shrinks, as by a keyboard on the screen. */
+    resized() {
+        this.size = sizeOfView();
+        if (this.look === "turn")
+            this.goToTurn();
+        else if (this.look === "end")
+            scroller.scrollTop = this.bottom();
     }
 
     /** Puts older blocks back where the reader comes near them. */
     scrolled() {
+        // (a view that grows scrolls by itself)
+        if (this.size === sizeOfView())
+            this.look = lookedAt(scroller.scrollTop, this.top, this.bottom());
         if (scroller.scrollTop > scroller.clientHeight || this.first === 0)
             return;
         const from = Math.max(0, this.first - SHOWN);
         const height = scroller.scrollHeight;
         const top = scroller.scrollTop;
-        const back = [];
-        for (let i = from; i < this.first; i++)
-            back.push(this.drawBlock(i, made("div", "turn")));
-        older.prepend(...back);
+        older.prepend(...this.drawn(from, this.first));
         this.first = from;
         scroller.scrollTop = top + scroller.scrollHeight - height;
     }
 
     /**
+     * Draws what an element does not have yet of its block.
      * @param {number} i
      * @param {HTMLElement} element
+     * @param {boolean} [isWhole]
      */
-    drawBlock(i, element) {
-        const pieces = this.blocks[i].map((piece) => this.drawPiece(piece));
-        element.replaceChildren(...pieces);
+    drawBlock(i, element, isWhole = true) {
+        this.blocks[i].forEach((piece, place, block) => {
+            const isOpen = !isWhole && i === this.blocks.length - 1 && place === block.length - 1;
+            const end = isOpen ? piece.text.lastIndexOf("\n") : piece.text.length;
+            const old = /** @type {HTMLElement | undefined} */ (element.children[place]);
+            const span = old || made("span", piece.kind);
+            if (piece.kind === "text")
+                this.drawText(span, piece, end, this.gapAt(i, place));
+            else if (!old)
+                drawOther(span, piece);
+            if (!old)
+                element.append(span);
+        });
         return element;
     }
 
-    /** @param {Piece} piece */
-    drawPiece({ kind, text, ranges = [] }) {
-        const element = made("span", kind);
-        if (kind !== "text") {
-            element.textContent = text;
-            return element;
+    /**
+     * How many characters a piece begins with that are not seen: the blank lines at the very start.
+     * @param {number} i
+     * @param {number} place
+     */
+    gapAt(i, place) {
+        const before = [...this.blocks.slice(0, i), this.blocks[i].slice(0, place)];
+        const isFirst = before.every((block) => block.every(({ text }) => !text.trim()));
+        return isFirst ? (/^(?:[ \t]*\n)*/.exec(this.blocks[i][place].text) || [""])[0].length : 0;
+    }
+
+    /**
+     * Draws what an element does not have yet of a text, up to an index of it.
+     * @param {HTMLElement} span
+     * @param {Piece} piece
+     * @param {number} end
+     * @param {number} gap
+     */
+    drawText(span, { text, ranges = [] }, end, gap) {
+        // (what was drawn has become the prompt)
+        if ((span.textContent || "").length > text.length)
+            span.replaceChildren();
+        if (gap > 0 && end >= gap && !span.hasChildNodes()) {
+            const blank = made("span", "", text.slice(0, gap));
+            blank.hidden = true;
+            span.append(blank);
         }
-        const lines = text.split("\n");
+        const drawn = (span.textContent || "").length;
+        const lines = text.slice(0, Math.max(0, end)).split("\n");
+        const parts = document.createDocumentFragment();
         let begin = 0;
         lines.forEach((line, i) => {
-            element.append(...styled(line, begin, ranges));
+            parts.append(...styled(line, begin, ranges, drawn));
             begin += line.length + 1;
-            const inLine = ranges.filter(({ from, to }) => from < begin && to > begin - 1);
-            const isFixed = inLine.some(({ styles }) => styles.includes("fixed"));
-            const isSoft = !isFixed && i < lines.length - 1 && this.width.joins(line, lines[i + 1]);
-            if (i < lines.length - 1)
-                element.append(isSoft ? made("span", "soft", "\n") : "\n");
+            if (i < lines.length - 1 && begin > drawn)
+                parts.append(this.lineEnd(line, lines[i + 1], begin, ranges));
         });
-        element.normalize();
-        return element;
+        parts.normalize();
+        span.append(parts);
+    }
+
+    /**
+     * The end of a line, before the next one: one that the story has made early is drawn as a space.
+     * @param {string} line
+     * @param {string} next
+     * @param {number} end where the next line begins in its text
+     * @param {Range[]} ranges
+     */
+    lineEnd(line, next, end, ranges) {
+        const inLine = ranges.filter(({ from, to }) => from < end && to > end - line.length - 2);
+        const isFixed = inLine.some(({ styles }) => styles.includes("fixed"));
+        return !isFixed && this.width.joins(line, next) ? made("span", "soft", "\n") : "\n";
+    }
+}
+
+/**
+ * Draws a piece that is no text. A line that was typed is a heading, by which a screen reader moves from turn to turn.
+ * @param {HTMLElement} span
+ * @param {Piece} piece
+ */
+function drawOther(span, { kind, text }) {
+    span.textContent = text;
+    if (kind === "typed" && text.trim()) {
+        span.setAttribute("role", "heading");
+        span.setAttribute("aria-level", "2");
     }
 }

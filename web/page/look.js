@@ -27,7 +27,10 @@ function keep(name, value) {
 
 /** @type {Record<string, (value: string) => void>} */
 const USES = {
-    size: (value) => root.style.setProperty("--size", value),
+    size: (value) => {
+        root.style.setProperty("--size", value);
+        dispatchEvent(new Event("resize"));
+    },
     theme: (value) => {
         root.dataset.theme = value;
     },

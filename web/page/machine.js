@@ -19,6 +19,10 @@ import { at, fromBase64 } from "./at.js";
  * @property {Uint8Array | null} snapshot
  */
 
+/**
+ * What came of an answer of a play that is repeated.
+ * @typedef {Pick<Standing, "awaits" | "rows" | "box"> & {runs: Run[], script: string}} Turn
+ */
 /** @typedef {{version: number, release: number, checksum: number, serial: string, ifid: string}} About */
 
 /** The machine's words on a story or a snapshot that it does not open. */
@@ -47,8 +51,8 @@ export class Machine {
         /** @type {Map<number, {resolve: (it: any) => void, reject: (error: Error) => void}>} */
         this.waiting = new Map();
         this.number = 0;
-        /** @type {(runs: Run[], script: string) => void} */
-        this.onText = () => {};
+        /** @type {(part: any) => void} */
+        this.onPart = () => {};
         this.worker = new Worker(workerAddress());
         this.worker.onmessage = (event) => this.heard(event.data);
         this.worker.onerror = (event) => this.fail(event.message || "the worker has failed");
@@ -58,7 +62,7 @@ export class Machine {
     /** @param {any} data */
     heard(data) {
         if (data.number === undefined) {
-            this.onText(data.runs, data.script);
+            this.onPart(data);
             return;
         }
         const call = this.waiting.get(data.number);
@@ -116,8 +120,19 @@ export class Machine {
      * @returns {Promise<Standing>}
      */
     run(answer, onText) {
-        this.onText = onText;
+        this.onPart = ({ runs, script }) => onText(runs, script);
         return this.call("run", { answer });
+    }
+
+    /**
+     * Runs the story and gives it answers as far as they fit.
+     * @param {Answer[]} answers
+     * @param {(turns: Turn[]) => void} onTurns takes what came before the first answer, and of each one
+     * @returns {Promise<Standing & {given: number}>}
+     */
+    replay(answers, onTurns) {
+        this.onPart = ({ turns }) => onTurns(turns);
+        return this.call("replay", { answers });
     }
 
     /** Lets a run end soon. */

@@ -1,6 +1,6 @@
 // The page: lets its parts work together.
 
-import { at, chosenFile, dialog, field, giveFile, stem } from "./at.js";
+import { agreed, at, chosenFile, closeWindows, dialog, field, giveFile, stem, tell } from "./at.js";
 import { prepareInside, showInside } from "./inside.js";
 import { Input } from "./input.js";
 import { showLines } from "./lines.js";
@@ -10,10 +10,11 @@ import { prepareLook } from "./look.js";
 import { moduleBytes } from "./machine.js";
 import { Opening, example } from "./opening.js";
 import { Play } from "./play.js";
-import { keepPlay } from "./resume.js";
+import { keepPlay, keptPlay, seePlay } from "./resume.js";
 import { askRestore, askSave, prepareSaves, showSaves } from "./saves.js";
 import { Screen } from "./screen.js";
 import { sumOf } from "./sums.js";
+import { prepareView } from "./view.js";
 
 const log = new Log();
 const screen = new Screen();
@@ -23,6 +24,7 @@ const input = new Input((answer) => play.give(answer));
 const play = new Play(log, screen, input, {
     save: (image) => askSave(ofPlay(), image),
     restore: () => askRestore(ofPlay()),
+    opened,
     changed,
 });
 const moduleSum = sumOf(moduleBytes());
@@ -35,19 +37,71 @@ function ofPlay() {
     return { sum: play.sum, game, place: screen.place(), line: play.reads() };
 }
 
-/** Shows and keeps what has changed in the play. */
-function changed() {
-    const name = play.story ? play.story.name : "zkit";
-    at("title").textContent = name;
-    document.title = `${name} · zkit`;
+/** Shows the part of the page for a play before anything is drawn or measured in it. */
+function opened() {
+    closeWindows();
+    showTitle();
+    showPlay();
+}
+
+function showTitle() {
+    at("title").textContent = play.name();
+    at("title").title = play.story ? play.story.name : "";
+    document.title = `${play.name()} · zkit`;
+}
+
+function showPlay() {
     at("welcome").hidden = true;
     at("play").hidden = at("tools").hidden = false;
+}
+
+/** Shows and keeps what has changed in the play. */
+function changed() {
+    showTitle();
     at("script").hidden = play.script === "";
     if (isLink(location.hash))
         history.replaceState(null, "", location.href.replace(/#.*/, ""));
-    const kept = play.kept(moduleSum);
-    if (kept)
-        keepPlay(kept);
+    const isKeeping = due !== null;
+    due = play.kept(moduleSum) || due;
+    if (due && !isKeeping)
+        keepAll();
+}
+
+/**
+ * The play that has still to be kept.
+ * @type {import("./resume.js").Kept | null}
+ */
+let due = null;
+let isFull = false;
+
+/** Keeps the newest play, one after another. */
+async function keepAll() {
+    for (let now = due; now; now = due === now ? null : due) {
+        const came = await keepPlay(now);
+        if (came === "elsewhere")
+            await chooseTab(now);
+        if (came === "full" && !isFull)
+            tell("The browser has no room to keep this play. Save the game as a file before you leave.", true);
+        isFull = came === "full";
+    }
+    due = null;
+}
+
+/**
+ * Asks which play of a story goes on, where another page has kept one meanwhile.
+ * @param {import("./resume.js").Kept} now
+ */
+async function chooseTab(now) {
+    const words = "You play this story in another tab or window too. Only one of the plays is kept.";
+    const isThis = await agreed("Which play goes on?", words, "This one", "The other one");
+    await seePlay(now.story);
+    if (isThis) {
+        await keepPlay(now);
+        return;
+    }
+    const other = await keptPlay(now.story);
+    if (other && play.story && play.sum === now.story)
+        await opening.goOn(play.story, other);
 }
 
 /**
@@ -78,7 +132,11 @@ function choose() {
 
 function prepareButtons() {
     onClick("choose", choose);
-    onClick("open", choose);
+    onClick("open", () => opening.showFirst());
+    onClick("to-play", () => {
+        showPlay();
+        input.show();
+    });
     onClick("example", () => opening.open(example()));
     onClick("undo", () => play.undo());
     onClick("restart", () => opening.restart());
@@ -87,7 +145,11 @@ function prepareButtons() {
     onClick("menu-lines", openLines);
     onClick("show-inside", openInside);
     onClick("menu-inside", openInside);
-    onClick("show-saves", () => showSaves(ofPlay()));
+    onClick("show-saves", async () => {
+        const image = await showSaves(ofPlay());
+        if (image)
+            await play.restoreGame(image);
+    });
     onClick("transcript", () => giveFile(log.transcript(), `${stem(ofPlay().game)}.txt`));
     onClick("script", () => giveFile(play.script, `${stem(ofPlay().game)}.script.txt`));
     at("show-menu").addEventListener("click", () => {
@@ -113,12 +175,15 @@ function prepareDrop() {
     addEventListener("drop", (event) => {
         event.preventDefault();
         const file = event.dataTransfer ? event.dataTransfer.files[0] : null;
-        if (file)
-            opening.openFile(file);
+        if (!file)
+            return;
+        closeWindows();
+        opening.openFile(file);
     });
 }
 
 prepareLook();
+prepareView();
 prepareSaves();
 prepareInside();
 prepareButtons();

@@ -1,21 +1,22 @@
 // Opening: a story from a file, a play of a link, or what the reader had open before.
 
 import { isRead } from "./answers.js";
-import { agreed, at, bytesOf, field, fromBase64, tell } from "./at.js";
+import { agreed, at, bytesOf, field, fromBase64, made, madeButton, tell } from "./at.js";
+import { lacking, titleOfBlorb, wordsOnFile } from "./kinds.js";
 import { isLink, playAt, playOf } from "./link.js";
 import { NotOpened } from "./machine.js";
 import { Left } from "./play.js";
-import { keepStory, keptPlay, lastPlay, storyOf, tidy } from "./resume.js";
+import { allPlays, keepStory, keptPlay, lastPlay, seePlay, storyOf, storyOfPlay, tidy } from "./resume.js";
 import { sumOf } from "./sums.js";
 
 /** @typedef {import("./link.js").Shared} Shared */
 /** @typedef {import("./play.js").File} StoryFile */
 
-const EXAMPLE = { name: "lighthouse.z5", ifid: "ZCODE-1-261122-009F" };
+const EXAMPLE = { name: "lighthouse.z5", title: "The Lamp on Skärvø", ifid: "ZCODE-1-261122-009F" };
 const SEED = "1";
 
 export function example() {
-    return { name: EXAMPLE.name, bytes: fromBase64(at("example-bytes").textContent || "") };
+    return { name: EXAMPLE.name, title: EXAMPLE.title, bytes: fromBase64(at("example-bytes").textContent || "") };
 }
 
 /**
@@ -89,6 +90,7 @@ export class Opening {
     async start(story, answers = [], withSeed = seed(), later = []) {
         return trying(story.name, async () => {
             tell("");
+            await seePlay(sumOf(story.bytes));
             await this.play.start(story, withSeed, answers, later);
             await keepStory({ ...story, ifid: this.play.ifid }, this.play.sum);
             this.changed();
@@ -142,6 +144,7 @@ export class Opening {
      */
     async goOn(story, kept) {
         field("seed").value = kept.seed;
+        await seePlay(kept.story);
         try {
             if (kept.module === this.moduleSum && kept.snapshot) {
                 await this.play.resume(story, kept);
@@ -162,23 +165,48 @@ export class Opening {
         const bytes = await bytesOf(file);
         const shared = bytes[0] === 0x7b ? playOf(new TextDecoder().decode(bytes)) : null;
         if (shared) {
-            await this.offer(shared);
+            await this.offer(shared, file.name);
+            return;
+        }
+        const words = wordsOnFile(bytes);
+        if (words) {
+            tell(`${file.name}: ${words}.`, true);
             return;
         }
         await trying(file.name, async () => {
             const story = await this.play.storyIn(bytes);
             if (story)
-                await this.open({ name: file.name, bytes: story });
+                await this.openWhole({ name: file.name, title: titleOfBlorb(bytes), bytes: story });
             else
                 tell(`${file.name}: this Blorb file contains no story, or it was cut off.`, true);
         });
     }
 
     /**
-     * Shows a play of a link or a file, if its story is here; else asks for that.
-     * @param {Shared} shared
+     * Opens a story. Where it was cut off, says so, and asks before it takes the place of a play that is on.
+     * @param {StoryFile} story
      */
-    async offer(shared) {
+    async openWhole(story) {
+        const [has, lacks] = [story.bytes.length, lacking(story.bytes)];
+        const words = `${story.name} is cut off: ${lacks.toLocaleString("en")} of its `
+            + `${(has + lacks).toLocaleString("en")} bytes are missing.`;
+        if (lacks && this.play.story && !await agreed("Play a story that is cut off?", words, "Play it", "No"))
+            return;
+        await this.open(story);
+        if (lacks && this.play.story && this.play.story.bytes === story.bytes)
+            tell(words, true);
+    }
+
+    /**
+     * Shows a play of a link or a file, if its story is here; else asks for that. Where it is not shown, says why.
+     * @param {Shared | string} shared
+     * @param {string} name
+     */
+    async offer(shared, name) {
+        if (typeof shared === "string") {
+            tell(`${name}: this play can't be shown: ${shared}.`, true);
+            return;
+        }
         const story = shared.ifid === EXAMPLE.ifid ? example() : await storyOf(shared.ifid);
         if (story) {
             await this.showShared(shared, story);
@@ -225,6 +253,39 @@ export class Opening {
         const last = await lastPlay();
         if (last)
             await this.goOn(last.story, last.play);
+        else
+            await this.showFirst();
+    }
+
+    /** Shows the first page, with the stories that were played here. */
+    async showFirst() {
+        const plays = await allPlays();
+        at("recent").hidden = plays.length === 0;
+        at("recent-list").replaceChildren(...plays.map((play) => {
+            const item = made("li");
+            item.append(madeButton("pick", "", () => this.continuePlay(play)));
+            const date = new Date(play.date).toLocaleString([], { dateStyle: "medium", timeStyle: "short" });
+            const words = `line ${play.answers.filter(isRead).length} · ${date}`;
+            item.children[0].append(made("b", "name", play.name || play.ifid), made("span", "", words));
+            return item;
+        }));
+        at("to-play").hidden = !this.play.story;
+        at("welcome").hidden = false;
+        at("play").hidden = at("tools").hidden = true;
+        if (this.play.story)
+            at("choose").focus();
+    }
+
+    /**
+     * Goes on with a play of the list on the first page.
+     * @param {import("./resume.js").Kept} play
+     */
+    async continuePlay(play) {
+        const story = await storyOfPlay(play);
+        if (story)
+            await trying(story.name, () => this.goOn(story, play));
+        else
+            tell("The story of this play is no longer here. Choose its file.", true);
     }
 
     /** Shows the play that is in the page's address, and takes it from there. */
@@ -234,10 +295,10 @@ export class Opening {
         const shared = await playAt(location.hash);
         history.replaceState(null, "", location.href.replace(/#.*/, ""));
         if (shared)
-            await this.offer(shared);
+            await this.offer(shared, "The link");
         else
             tell("The link can't be read: it is cut off, or this browser is too old for it.", true);
-        return shared !== null;
+        return shared !== null && typeof shared !== "string";
     }
 
     async restart() {
@@ -254,7 +315,9 @@ export class Opening {
      */
     async goTo(answers, count) {
         const { story } = this.play;
-        if (story)
-            await this.start(story, answers.slice(0, count), this.play.seed, answers.slice(count));
+        if (!story)
+            return;
+        tell("");
+        await trying(story.name, () => this.play.goTo(answers, count));
     }
 }

@@ -1,9 +1,9 @@
 // A play: the story that runs, what was answered, and the ways back. What is answered is recorded, since the same
 // answers give the same play: that is what a link has, and how the reader goes back to any line.
 
-import { agreed, at, tell, toBase64 } from "./at.js";
-import { fits, isRead } from "./answers.js";
-import { hideOver, showOver, showPaused, showRunning } from "./bars.js";
+import { agreed, at, speak, tell, toBase64 } from "./at.js";
+import { isRead } from "./answers.js";
+import { hideOver, showOver, showPaused, showRunning, wordsOfEnd } from "./bars.js";
 import { Machine, Trapped } from "./machine.js";
 import { boxText } from "./screen.js";
 import { sound } from "./sound.js";
@@ -13,7 +13,7 @@ import { sumOf } from "./sums.js";
 /** @typedef {import("./machine.js").Standing} Standing */
 /** @typedef {import("./machine.js").About} About */
 /** @typedef {import("./resume.js").Kept} Kept */
-/** @typedef {{name: string, bytes: Uint8Array}} File */
+/** @typedef {{name: string, bytes: Uint8Array, title?: string}} File */
 
 /**
  * A place to go back to: how all stood at a read.
@@ -22,6 +22,7 @@ import { sumOf } from "./sums.js";
  * @property {number} answers
  * @property {import("./log.js").Mark} log
  * @property {string} chain
+ * @property {number} script how long the story's own transcript was
  */
 
 /**
@@ -29,6 +30,7 @@ import { sumOf } from "./sums.js";
  * @typedef {object} Reader
  * @property {(image: Uint8Array) => Promise<boolean>} save
  * @property {() => Promise<Uint8Array | null>} restore
+ * @property {() => void} opened
  * @property {() => void} changed
  */
 
@@ -37,9 +39,6 @@ const OPTIONS = { steps: 1000000000 };
 
 /** So often a story asks for saved games before the reader is asked whether to go on. */
 const MOST_FILES = 3;
-
-/** So often a play that is repeated goes on by itself where much was written. */
-const MOST_PAUSES = 20;
 
 /** So many states to go back to are kept. */
 const MARKS = 32;
@@ -57,6 +56,16 @@ const PAUSED = {
 
 /** Something else was begun meanwhile. */
 export class Left extends Error {}
+
+/**
+ * The last one of some marks from which so many answers can be reached without the start of the story; if there is one.
+ * @param {(Mark | null)[]} marks in the order of their answers
+ * @param {number} count
+ */
+function nearest(marks, count) {
+    const found = marks.filter((mark) => mark && mark.snapshot && mark.answers <= count);
+    return found.length > 0 ? found[found.length - 1] : null;
+}
 
 export class Play {
     /**
@@ -77,6 +86,8 @@ export class Play {
         this.ifid = "";
         this.sum = "";
         this.seed = "1";
+        /** The title that the story shows at its start. */
+        this.title = "";
         /** @type {Standing | null} */
         this.standing = null;
         this.isBusy = false;
@@ -106,6 +117,11 @@ export class Play {
         this.turnText = "";
         /** @type {string[]} */
         this.lastRows = [];
+        /**
+         * The saved game that the story gets where it asks for one.
+         * @type {Uint8Array | null}
+         */
+        this.chosen = null;
         at("stop").addEventListener("click", () => this.stop());
         at("go-on").addEventListener("click", () => this.go(null));
         at("step-back").addEventListener("click", () => this.back());
@@ -129,6 +145,11 @@ export class Play {
         this.lastRows = [];
     }
 
+    /** What the story is called: by its file's own words, by its first bold line, or by its file's name. */
+    name() {
+        return this.story ? this.story.title || this.title || this.story.name : "zkit";
+    }
+
     /** How many lines and keys the reader has given. */
     reads() {
         return this.answers.filter(isRead).length;
@@ -137,7 +158,7 @@ export class Play {
     /** @param {boolean} isBusy */
     beBusy(isBusy) {
         this.isBusy = isBusy;
-        at("log").setAttribute("aria-busy", String(isBusy));
+        at("play").dataset.busy = String(isBusy);
     }
 
     /**
@@ -199,6 +220,32 @@ export class Play {
     }
 
     /**
+     * Goes to where so many of some answers were given: from the nearest snapshot of this play, or else from the start
+     * of the story. The others can still be gone to.
+     * @param {Answer[]} answers
+     * @param {number} count
+     */
+    async goTo(answers, count) {
+        const story = /** @type {File} */ (this.story);
+        const mark = nearest([...this.marks, this.here], count);
+        if (!mark) {
+            await this.start(story, this.seed, answers.slice(0, count), answers.slice(count));
+            return;
+        }
+        const machine = await this.idleMachine();
+        await this.unlessLeft(machine.resume(story.bytes, /** @type {Uint8Array} */ (mark.snapshot)));
+        this.answers = answers.slice(0, mark.answers);
+        this.later = answers.slice(count);
+        this.marks = this.marks.filter((it) => it.answers < mark.answers);
+        this.log.cut(mark.log);
+        this.chain = mark.chain;
+        this.script = this.script.slice(0, mark.script);
+        this.turnText = "";
+        this.here = null;
+        await this.guarded(() => this.replay(answers.slice(mark.answers, count)));
+    }
+
+    /**
      * The story that a file has; null where it is a Blorb file without one. The play goes on meanwhile.
      * @param {Uint8Array} file
      */
@@ -229,8 +276,13 @@ export class Play {
             return;
         }
         this.dropMachine();
+        await this.toLastRead();
+    }
+
+    /** Goes on from the last read, with a machine that may be another one. */
+    async toLastRead() {
         if (this.here)
-            await this.backTo(this.here);
+            await this.goTo([...this.answers, ...this.later], this.here.answers);
     }
 
     /** Ends the machine; the next use makes another one. */
@@ -253,11 +305,13 @@ export class Play {
         this.take(story, about, play.seed);
         this.empty();
         this.log.fill(play.log);
+        this.title = play.title || "";
         this.answers = play.answers;
         this.input.remember(play.answers);
         this.chain = play.chain;
         this.lastRows = play.box;
-        this.freshened();
+        if (!play.hasStates)
+            this.freshened();
         await this.guarded(async () => this.settle(await this.step(null)));
     }
 
@@ -272,10 +326,11 @@ export class Play {
         this.ifid = about.ifid;
         this.sum = sumOf(story.bytes);
         this.seed = seed;
-        this.script = "";
+        this.script = this.title = "";
+        this.reader.opened();
     }
 
-    /** Notes that the states are gone that the story's own UNDO goes back to. */
+    /** Notes that the states are gone that the story's own UNDO goes back to: a play was kept without them. */
     freshened() {
         const last = this.answers[this.answers.length - 1];
         const isNoted = typeof last === "object" && "fresh" in last;
@@ -296,10 +351,16 @@ export class Play {
             this.dropMachine();
             if (!(error instanceof Trapped))
                 throw error;
-            if (this.here)
-                await this.backTo(this.here);
+            await this.toLastRead();
             tell(`The interpreter failed (${error.message}) and was restarted.`, true);
         }
+    }
+
+    /** Awaits no answer while the story runs. */
+    rest() {
+        this.beBusy(true);
+        this.input.rest();
+        hideOver();
     }
 
     /**
@@ -309,9 +370,7 @@ export class Play {
     async step(answer) {
         const round = this.round;
         const machine = /** @type {Machine} */ (this.machine);
-        this.beBusy(true);
-        this.input.rest();
-        hideOver();
+        this.rest();
         const soon = setTimeout(() => showRunning("The story is running."), SOON);
         try {
             return await this.unlessLeft(machine.run(answer, (runs, script) => this.written(round, runs, script)));
@@ -347,6 +406,22 @@ export class Play {
         tell("");
         this.later = [];
         await this.go(answer);
+    }
+
+    /**
+     * Restores a saved game by the story's own command.
+     * @param {Uint8Array} image
+     */
+    async restoreGame(image) {
+        if (this.isBusy || !this.standing || this.standing.awaits !== "line") {
+            tell("The story awaits no command. Restore the game when it does.", true);
+            return;
+        }
+        this.chosen = image;
+        await this.give("restore");
+        if (this.chosen)
+            tell("The story did not take the command RESTORE. Type its own command to restore a game.", true);
+        this.chosen = null;
     }
 
     /**
@@ -390,8 +465,21 @@ export class Play {
             const image = await /** @type {Machine} */ (this.machine).image();
             return { saved: image !== null && await this.reader.save(image) };
         }
-        const image = await this.reader.restore();
+        const image = this.chosen || await this.reader.restore();
+        this.chosen = null;
         return { restored: image && toBase64(image) };
+    }
+
+    /**
+     * Records an answer to a read.
+     * @param {Answer} answer
+     */
+    record(answer) {
+        if (this.here && this.here.snapshot) {
+            this.marks.push(this.here);
+            this.marks.splice(0, this.marks.length - MARKS);
+        }
+        this.answers.push(answer);
     }
 
     /**
@@ -399,72 +487,63 @@ export class Play {
      * @param {Answer} answer
      */
     note(answer) {
-        if (this.here) {
-            this.marks.push(this.here);
-            this.marks.splice(0, this.marks.length - MARKS);
-        }
-        this.answers.push(answer);
-        if (typeof answer === "string") {
+        this.record(answer);
+        if (typeof answer === "string")
             this.log.typed(answer);
-        } else {
+        else if (typeof answer === "object")
+            this.log.undone();
+        else
             this.log.pressed();
-        }
     }
 
     /**
-     * Gives a story that was opened all answers of a record, as far as they fit. Where it asks for saved games after
-     * these, the reader is asked.
+     * Runs the story and gives it all answers of a record, as far as they fit and the reader does not stop it. Nothing
+     * is drawn meanwhile. Where it asks for saved games after these, the reader is asked.
      * @param {Answer[]} answers
      */
     async replay(answers) {
-        this.isHalted = false;
-        const soon = setTimeout(() => showRunning("Repeating the play…"), SOON);
-        let standing = await this.runOn(null).finally(() => clearTimeout(soon));
-        const again = setTimeout(() => showRunning("Repeating the play…"), SOON);
-        try {
-            standing = await this.repeat(standing, answers);
-        } finally {
-            clearTimeout(again);
-        }
-        showRunning("");
+        const standing = answers.length > 0 ? await this.repeat(answers) : await this.step(null);
         this.settle(await this.answerFiles(standing));
     }
 
-    /**
-     * Gives answers as far as they fit, until the reader stops it.
-     * @param {Standing} standing
-     * @param {Answer[]} answers
-     */
-    async repeat(standing, answers) {
-        for (const answer of answers) {
-            const reads = standing.awaits === "line" || standing.awaits === "character";
-            if (this.isHalted || !fits(standing.awaits, answer))
-                break;
-            if (reads)
-                this.reach(standing);
-            if (isRead(answer))
-                this.note(answer);
-            else
-                this.answers.push(answer);
-            standing = await this.runOn(answer);
-        }
+    /** @param {Answer[]} answers */
+    async repeat(answers) {
+        const [machine, round, began] = [/** @type {Machine} */ (this.machine), this.round, Date.now()];
+        let turns = -1;
+        this.rest();
+        this.isHalted = false;
+        this.log.isStill = true;
+        const { given, ...standing } = await this.unlessLeft(machine.replay(answers, (parts) => {
+            for (const part of round === this.round ? parts : [])
+                this.repeated(round, answers[turns++], part);
+            if (round === this.round && Date.now() - began > SOON)
+                showRunning(`Repeating the play: ${turns} of ${answers.length}.`);
+        }));
+        if (this.isHalted)
+            this.later = [...answers.slice(given), ...this.later];
+        showRunning("");
         return standing;
     }
 
     /**
-     * A step that goes on by itself where much was written.
-     * @param {Answer | null} answer
+     * Takes an answer that was given again, if any, and what came of it.
+     * @param {number} round
+     * @param {Answer | undefined} answer
+     * @param {import("./machine.js").Turn} turn
      */
-    async runOn(answer) {
-        let standing = await this.step(answer);
-        for (let i = 0; i < MOST_PAUSES && standing.awaits === "pause"; i++)
-            standing = await this.step(null);
-        return standing;
+    repeated(round, answer, { runs, script, ...turn }) {
+        if (answer !== undefined && isRead(answer))
+            this.note(answer);
+        else if (answer !== undefined)
+            this.answers.push(answer);
+        this.written(round, runs, script);
+        if (turn.awaits === "line" || turn.awaits === "character")
+            this.reach({ ...turn, snapshot: null });
     }
 
     /**
      * Notes that the story reads, or has ended.
-     * @param {Standing} standing
+     * @param {Pick<Standing, "awaits" | "rows" | "box" | "snapshot">} standing
      */
     reach(standing) {
         if (this.turnText)
@@ -477,8 +556,13 @@ export class Play {
         this.lastRows = standing.box || standing.rows;
         if (standing.awaits === "stopped")
             return;
+        // (a story may await a key first; the name of a place is bold too)
+        const bold = this.reads() <= 1 && !this.title ? this.log.boldLine() : "";
+        if (bold && !standing.rows.some((row) => row.includes(bold)))
+            this.title = bold;
         this.here = {
             snapshot: standing.snapshot, answers: this.answers.length, log: this.log.mark(), chain: this.chain,
+            script: this.script.length,
         };
     }
 
@@ -500,29 +584,40 @@ export class Play {
     settle(standing) {
         this.standing = standing;
         this.beBusy(false);
-        this.screen.show(standing.rows, standing.status);
+        const news = this.screen.show(standing.rows, standing.status);
         if (this.bleep)
             sound(this.bleep);
         this.bleep = null;
         const { awaits } = standing;
-        if (awaits === "line" || awaits === "character") {
+        const reads = awaits === "line" || awaits === "character";
+        if (reads || awaits === "stopped")
             this.reach(standing);
-            this.log.draw();
+        this.log.draw();
+        if (reads)
             this.input.await(awaits, this.log.held, standing.longest);
-            this.reader.changed();
-            return;
-        }
-        this.input.hide();
-        if (awaits === "stopped") {
-            this.reach(standing);
-            showOver(standing, this.here !== null);
-        } else {
-            showPaused(PAUSED[awaits] || "You have stopped the story.", this.here !== null);
-        }
+        speak(reads ? news : [...news, this.showStop(standing)]);
+        // (what stands below the text may have come or gone)
+        this.log.resized();
         this.reader.changed();
     }
 
-    /** Goes back to before the last answer: by the story's own state, or else by a snapshot of the read before. */
+    /**
+     * Shows that the story does not go on by itself, and answers why.
+     * @param {Standing} standing
+     */
+    showStop(standing) {
+        this.input.hide();
+        if (standing.awaits === "stopped") {
+            const words = wordsOfEnd(standing);
+            showOver(words, this.here !== null);
+            return words;
+        }
+        const words = PAUSED[standing.awaits] || "You have stopped the story.";
+        showPaused(words, this.here !== null);
+        return words;
+    }
+
+    /** Goes back to before the last answer: by the story's own state, or else by a snapshot of a read before. */
     async undo() {
         const awaits = this.standing ? this.standing.awaits : "stopped";
         if (this.isBusy || (awaits !== "line" && awaits !== "character")) {
@@ -530,54 +625,37 @@ export class Play {
             return;
         }
         await this.guarded(async () => {
+            const mark = this.log.mark();
+            this.log.undone();
             const standing = await this.step({ undo: true });
             if (standing.awaits === "refused") {
+                this.log.cut(mark);
                 this.beBusy(false);
                 await this.backToLast();
                 return;
             }
-            this.note({ undo: true });
+            this.later = [];
+            this.record({ undo: true });
             this.settle(standing);
         });
     }
 
     /** Back to the last read, from a story that has stopped or was stopped. */
     async back() {
-        const { here } = this;
-        if (here)
-            await this.guarded(() => this.backTo(here));
+        if (!this.here)
+            return;
+        await this.guarded(() => this.toLastRead());
+        tell("Went back one step.");
     }
 
     async backToLast() {
-        const mark = this.marks.pop();
-        const last = this.answers.length - 1 - [...this.answers].reverse().findIndex(isRead);
-        if (mark) {
-            await this.backTo(mark);
-        } else if (last < this.answers.length) {
-            await this.start(/** @type {File} */ (this.story), this.seed, this.answers.slice(0, last));
-        } else {
+        const last = this.answers.map(isRead).lastIndexOf(true);
+        if (last < 0) {
             tell("There is nothing to go back to.");
             this.settle(await this.step(null));
-        }
-    }
-
-    /** @param {Mark} mark */
-    async backTo(mark) {
-        const story = /** @type {File} */ (this.story);
-        const answers = this.answers.slice(0, mark.answers);
-        if (!mark.snapshot) {
-            await this.start(story, this.seed, answers);
             return;
         }
-        const machine = await this.idleMachine();
-        await this.unlessLeft(machine.resume(story.bytes, mark.snapshot));
-        this.answers = answers;
-        this.freshened();
-        this.log.cut(mark.log);
-        this.chain = mark.chain;
-        this.turnText = "";
-        this.here = null;
-        await this.guarded(async () => this.settle(await this.step(null)));
+        await this.goTo([...this.answers, ...this.later], last);
         tell("Went back one step.");
     }
 
@@ -591,9 +669,9 @@ export class Play {
         if (!this.here || this.isBusy || (awaits !== "line" && awaits !== "character"))
             return null;
         return {
-            module, story: this.sum, ifid: this.ifid, seed: this.seed,
+            module, story: this.sum, ifid: this.ifid, seed: this.seed, title: this.title, name: this.name(),
             answers: this.answers.slice(0, this.here.answers), chain: this.here.chain,
-            snapshot: this.here.snapshot, log: this.log.kept(),
+            snapshot: this.here.snapshot, hasStates: true, log: this.log.kept(),
             box: this.lastRows, date: Date.now(),
         };
     }

@@ -3,6 +3,7 @@
 import {
     agreed, at, bytesOf, chosenFile, closed, dialog, field, giveFile, made, madeButton, stem, tell,
 } from "./at.js";
+import { isQuetzal } from "./kinds.js";
 import { forget, isLasting, keep, kept, names } from "./store.js";
 
 /** @typedef {{name: string, game: string, place: string, line: number, date: number, image: Uint8Array}} Slot */
@@ -104,7 +105,7 @@ export async function askSave(of, image) {
  * A line of the list of saved games.
  * @param {Of} of
  * @param {Slot} slot
- * @param {((slot: Slot) => void) | null} pick
+ * @param {(slot: Slot) => void} pick
  */
 function listed(of, slot, pick) {
     const item = made("li");
@@ -117,20 +118,20 @@ function listed(of, slot, pick) {
     });
     out.setAttribute("aria-label", `Save ${slot.name} as a file`);
     drop.setAttribute("aria-label", `Remove ${slot.name}`);
-    item.append(described(slot, pick ? madeButton("pick", "", () => pick(slot)) : made("div", "pick")), out, drop);
+    item.append(described(slot, madeButton("pick", "", () => pick(slot))), out, drop);
     return item;
 }
 
 /**
  * @param {Of} of
- * @param {string} head
- * @param {((slot: Slot) => void) | null} pick
+ * @param {boolean} isAsked whether the story asks for a game
+ * @param {(slot: Slot) => void} pick
  */
-async function fillList(of, head, pick) {
+async function fillList(of, isAsked, pick) {
     const slots = await slotsOf(of.sum);
-    at("restoring-head").textContent = head;
+    at("restoring-head").textContent = isAsked ? "Restore a game" : "Saved games";
     at("no-slots").hidden = slots.length > 0;
-    at("restore-none").hidden = pick === null;
+    at("restore-none").hidden = !isAsked;
     at("slots").replaceChildren(...slots.map((slot) => listed(of, slot, pick)));
 }
 
@@ -154,7 +155,7 @@ function awaitFile(take) {
 export async function askRestore(of) {
     /** @type {Uint8Array | null} */
     let found = null;
-    await fillList(of, "Restore a game", (slot) => {
+    await fillList(of, true, (slot) => {
         found = slot.image;
         restoring.close("kept");
     });
@@ -166,18 +167,13 @@ export async function askRestore(of) {
     return found;
 }
 
-/** @param {Uint8Array} bytes */
-function isQuetzal(bytes) {
-    const letters = String.fromCharCode(...bytes.subarray(0, 12));
-    return letters.startsWith("FORM") && letters.endsWith("IFZS");
-}
-
 /**
  * Keeps a file of another interpreter in a slot.
  * @param {Of} of
  * @param {File} file
+ * @param {(slot: Slot) => void} pick
  */
-async function bringIn(of, file) {
+async function bringIn(of, file, pick) {
     const image = await bytesOf(file);
     const name = stem(file.name);
     if (!isQuetzal(image)) {
@@ -185,18 +181,26 @@ async function bringIn(of, file) {
         tell(`${file.name} is not a Quetzal saved game.`, true);
     } else if (await mayWrite(of, name)) {
         await write({ ...of, place: "", line: -1 }, name, image);
-        await fillList(of, "Saved games", null);
+        await fillList(of, false, pick);
     }
 }
 
 /**
- * Shows the saved games of a story.
+ * Shows the saved games of a story, and answers the one that the reader chooses, or null.
  * @param {Of} of
+ * @returns {Promise<Uint8Array | null>}
  */
 export async function showSaves(of) {
-    await fillList(of, "Saved games", null);
-    awaitFile((file) => bringIn(of, file));
+    /** @type {Uint8Array | null} */
+    let found = null;
+    const pick = (/** @type {Slot} */ slot) => {
+        found = slot.image;
+        restoring.close("kept");
+    };
+    await fillList(of, false, pick);
+    awaitFile((file) => bringIn(of, file, pick));
     await closed(restoring);
+    return found;
 }
 
 /** Makes the buttons of both dialogs work. */

@@ -7,7 +7,7 @@ import { at, made } from "./at.js";
 
 const COLUMNS = 80;
 
-/** The smallest and the greatest height of the grid's letters, in pixels. */
+/** The smallest and the greatest height of the grid's letters, in pixels, the greatest one for text of medium size. */
 const SMALLEST = 11;
 const GREATEST = 14;
 
@@ -30,6 +30,18 @@ function statusParts({ kind, name, first, second }) {
     return [name, kind === "time" ? `Time: ${time}` : `Score: ${first}  Turns: ${second}`];
 }
 
+/** What changes with each turn, and is not told. */
+const COUNTS = /^(turns|moves|time)\b/i;
+
+/**
+ * What is told of parts that have changed: those that were not there before.
+ * @param {string[]} before
+ * @param {string[]} now
+ */
+function news(before, now) {
+    return now.filter((part) => !before.includes(part) && !COUNTS.test(part));
+}
+
 /**
  * The rows of a box without what is empty around its text.
  * @param {string[]} rows
@@ -50,17 +62,27 @@ export class Screen {
         this.rows = [];
         /** @type {StatusLine | null} */
         this.status = null;
+        /**
+         * What stands there, in parts.
+         * @type {string[]}
+         */
+        this.parts = [];
         addEventListener("resize", () => this.draw());
     }
 
     /**
+     * Shows the rows, and answers in words what is new in them.
      * @param {string[]} rows
      * @param {StatusLine | null} status
      */
     show(rows, status) {
+        const before = this.parts;
         this.rows = rows;
         this.status = status;
+        this.parts = [...status ? statusParts(status) : [], ...rows].flatMap((row) => row.trim().split(/ {2,}/))
+            .filter((part) => part);
         this.draw();
+        return news(before, this.parts).map((part) => /[.!?]$/.test(part) ? part : `${part}.`);
     }
 
     /** What the status says of where the reader is. */
@@ -84,7 +106,8 @@ export class Screen {
     }
 
     drawRows() {
-        const size = Math.min(GREATEST, (upper.clientWidth - 24) / COLUMNS / 0.603);
+        const greatest = GREATEST * parseFloat(getComputedStyle(document.documentElement).fontSize) / 16;
+        const size = Math.min(greatest, (upper.clientWidth - 24) / COLUMNS / 0.603);
         const isBar = size < SMALLEST && this.rows.length <= 2 && this.rows.every((row) => parts(row).length <= 3);
         if (isBar) {
             upper.append(...this.rows.map((row) => this.bar(parts(row))));

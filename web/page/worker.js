@@ -1,6 +1,7 @@
 // The machine, in a worker: it runs a story by slices, so that a message to stop is heard at any time.
 
 import { Module, Refused } from "../zkit.js";
+import { fits } from "./answers.js";
 
 /** @typedef {import("./answers.js").Answer} Answer */
 
@@ -13,8 +14,18 @@ const ROOM = 32768;
 /** A snapshot has the limits that the page gave its story, which may be any. */
 const ANY = { frames: 65535, words: 65535, undo: 64, steps: 1000000000, room: ROOM, styles: true };
 
-/** So many characters come at most before the reader is asked whether to go on. */
+/** So many characters come at most before the reader is asked whether to go on, and where a play is repeated. */
 const PAUSE = 200000;
+const PAUSE_OF_REPEATED = 4000000;
+
+/** A snapshot has all states that the story's own UNDO goes back to, however many bytes they have. */
+const ALL_STATES = 0xffffffff;
+
+/** So many milliseconds a turn that is repeated may take after it was stopped, so that it ends at a read. */
+const PATIENCE = 1000;
+
+/** So many milliseconds pass at most before what was repeated is posted, and messages are let in. */
+const PART = 50;
 
 /** @type {any} */
 const page = self;
@@ -24,7 +35,8 @@ let module = null;
 /** @type {any} */
 let game = null;
 let story = new Uint8Array();
-let isStopped = false;
+/** When a run was stopped. */
+let stopped = Infinity;
 
 /** Lets messages in. */
 function breath() {
@@ -88,55 +100,111 @@ function give(answer) {
     return "undo" in answer ? game.undo() : freshen();
 }
 
+/** @param {string} awaits */
+function isReading(awaits) {
+    return awaits === "line" || awaits === "character";
+}
+
+/**
+ * What is seen above the text after a run: the rows, and those of a box that was taken away again before a read.
+ * @param {string} awaits
+ */
+function seen(awaits) {
+    const { height, tallest } = game.window();
+    return { awaits, rows: game.rows(), box: isReading(awaits) && tallest > height ? game.tallestRows() : null };
+}
+
 /**
  * How the story stands after it has run.
  * @param {string} awaits
  */
 function standing(awaits) {
-    const reads = awaits === "line" || awaits === "character";
-    const { height, tallest } = game.window();
     return {
-        awaits,
-        rows: game.rows(),
-        box: reads && tallest > height ? game.tallestRows() : null,
+        ...seen(awaits),
         status: game.statusLine(),
         longest: awaits === "line" ? game.longestLine() : 0,
         last: awaits === "stopped" ? game.lastLine() : "",
         words: awaits === "stopped" ? game.words() : "",
-        snapshot: reads ? game.snapshot() : null,
+        snapshot: isReading(awaits) ? game.snapshot(ALL_STATES) : null,
     };
 }
 
-/** Posts what the story has written, and answers how much. */
-function postText() {
-    /** @type {import("../zkit.js").Run[]} */
-    const runs = game.runs();
-    const script = game.transcript();
-    if (runs.length > 0 || script)
-        page.postMessage({ runs, script });
-    return runs.reduce((sum, run) => sum + run.text.length, 0);
-}
-
 /**
- * Runs the story until it awaits something, has written very much, or is stopped.
- * @param {Answer | null} answer
+ * Runs the story until it awaits something, has written very much, or is stopped, and answers what it awaits.
+ * @param {number} most so many characters are very much
+ * @param {number} patience so many milliseconds it goes on after it was stopped
+ * @param {(runs: import("../zkit.js").Run[], script: string) => void} take takes what it writes
  */
-async function run(answer) {
-    isStopped = false;
-    if (answer !== null && !give(answer))
-        return { ...standing("refused"), snapshot: null };
+async function turned(most, patience, take) {
     let written = 0;
     for (;;) {
         const awaits = game.turn(SLICE);
-        written += postText();
+        const [runs, script] = [game.runs(), game.transcript()];
+        if (runs.length > 0 || script)
+            take(runs, script);
+        for (const { text } of runs)
+            written += text.length;
         if (awaits !== "time" && awaits !== "room")
-            return standing(awaits);
-        if (written >= PAUSE)
-            return standing("pause");
+            return awaits;
+        if (written >= most)
+            return "pause";
         await breath();
-        if (isStopped)
-            return standing("halt");
+        if (performance.now() >= stopped + patience)
+            return "halt";
     }
+}
+
+/**
+ * Gives the story an answer, if any, and runs it. What it writes is posted as it comes.
+ * @param {Answer | null} answer
+ */
+async function run(answer) {
+    stopped = Infinity;
+    if (answer !== null && !give(answer))
+        return { ...standing("refused"), snapshot: null };
+    return standing(await turned(PAUSE, 0, (runs, script) => page.postMessage({ runs, script })));
+}
+
+/**
+ * Runs the story as one turn of a play that is repeated, and answers what it awaits.
+ * @param {object[]} turns where what came of it is added
+ */
+async function repeated(turns) {
+    /** @type {import("../zkit.js").Run[]} */
+    const all = [];
+    let text = "";
+    const awaits = await turned(PAUSE_OF_REPEATED, PATIENCE, (runs, script) => {
+        all.push(...runs);
+        text += script;
+    });
+    turns.push({ ...seen(awaits), runs: all, script: text });
+    return awaits;
+}
+
+/**
+ * Runs the story and gives it answers as far as they fit, until it is stopped. The turns are posted by parts; what is
+ * answered is how the story stands then, and how many answers it was given.
+ * @param {Answer[]} answers
+ */
+async function replay(answers) {
+    stopped = Infinity;
+    let began = performance.now();
+    /** @type {object[]} */
+    let turns = [];
+    let awaits = await repeated(turns);
+    let given = 0;
+    while (stopped === Infinity && given < answers.length && fits(awaits, answers[given]) && give(answers[given])) {
+        given++;
+        awaits = await repeated(turns);
+        if (performance.now() - began > PART) {
+            page.postMessage({ turns });
+            turns = [];
+            await breath();
+            began = performance.now();
+        }
+    }
+    page.postMessage({ turns });
+    return { ...standing(awaits), given };
 }
 
 /** @type {Record<string, (values: any) => any>} */
@@ -163,6 +231,7 @@ const CALLS = {
         return about(game);
     },
     run: ({ answer }) => run(answer),
+    replay: ({ answers }) => replay(answers),
     image: () => game.image(),
     list: ({ listing }) => game.list(listing),
 };
@@ -170,7 +239,7 @@ const CALLS = {
 page.onmessage = async (/** @type {MessageEvent} */ event) => {
     const { number, call, values } = event.data;
     if (call === "stop") {
-        isStopped = true;
+        stopped = performance.now();
         return;
     }
     try {

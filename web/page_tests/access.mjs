@@ -95,7 +95,7 @@ function namesInPage() {
         const role = it.getAttribute("role") || own;
         const label = it.labels?.[0]?.textContent.trim();
         const others = it.getAttribute("aria-labelledby");
-        const text = ["BUTTON", "A"].includes(it.tagName) || role === "status" ? it.textContent.trim() : "";
+        const text = ["BUTTON", "A"].includes(it.tagName) || ["status", "heading"].includes(role) ? it.textContent.trim() : "";
         const name = it.getAttribute("aria-label") || (others && textOf(others)) || label || text;
         return [role, name, it.id];
     });

@@ -5,6 +5,7 @@ import { writeFileSync } from "node:fs";
 import { contrast, named } from "./access.mjs";
 import { KEEPING, blorb, spoilInPage } from "./keeping.mjs";
 import { EXAMPLES, MENU, basename, holds, join, linesOf, native, pause, readFileSync, same, sameWithKeys } from "./page.mjs";
+import { PERSON } from "./person.mjs";
 import { telling } from "./stories.mjs";
 import { USING } from "./using.mjs";
 
@@ -31,7 +32,7 @@ async function starts(page) {
     await page.ready();
     const ready = Date.now() - began;
     await page.click("#example");
-    await page.until(() => document.getElementById("log").textContent.includes("Jetty") && !document.getElementById("ask").hidden);
+    await page.until(() => document.getElementById("scroller").textContent.includes("Jetty") && !document.getElementById("ask").hidden);
     return `ready after ${ready} ms, the first room after ${Date.now() - began} ms`;
 }
 
@@ -185,11 +186,11 @@ async function reload(page) {
     await page.fresh();
     await page.open(MENU);
     await page.sayAll(["roll", "hello", "roll"]);
-    const before = await page.text("log");
+    const before = await page.text("scroller");
     await page.keeps(3);
     await page.reload();
     await page.rests();
-    same(await page.text("log"), before, "the log after a reload");
+    same(await page.text("scroller"), before, "the log after a reload");
     same(await page.text("title"), "menu.z5");
     await page.say("roll");
     same(await page.transcript(), native(["play", "--echo", MENU], "roll\nhello\nroll\nroll\n").text, "the transcript");
@@ -215,7 +216,7 @@ async function seeded(page, seed) {
     await page.until(() => document.getElementById("asking").open || !document.querySelector("dialog[open]"));
     if (await page.isShown("asking"))
         await page.click("#asking-yes");
-    await page.until(() => !document.querySelector("dialog[open]") && !document.getElementById("log").textContent.includes(">roll"));
+    await page.until(() => !document.querySelector("dialog[open]") && !document.getElementById("scroller").textContent.includes(">roll"));
     await page.rests();
 }
 
@@ -368,7 +369,7 @@ async function script(page) {
     const story = readFileSync(z(5));
     story[17] |= 1;
     await page.drop(story, "scripted.z5");
-    await page.until(() => document.getElementById("title").textContent === "scripted.z5");
+    await page.until(() => document.getElementById("title").title === "scripted.z5");
     await page.rests();
     await page.sayAll(["open the bag", "inventory"]);
     const found = readFileSync(await page.fileAfter(() => page.menu("script")), "utf8");
@@ -397,14 +398,36 @@ async function playFile(page) {
 async function badPlays(page) {
     await page.fresh();
     const play = { zkit: 1, ifid: "ZCODE-1-261127-15E0", name: "x", story: "", seed: "1", told: "", answers: [] };
+    const [spoilt, other, text] = ["it is damaged", "it was made by another version of this page", "not a story: it is a text file"];
     const bad = [
-        { answers: [-1] }, { answers: [{ restored: "%" }] }, { answers: [[]] }, { seed: "x" }, { name: "x".repeat(999) }, { zkit: 2 },
+        [{ answers: [-1] }, spoilt], [{ answers: [{ restored: "%" }] }, spoilt], [{ answers: [[]] }, spoilt],
+        [{ seed: "x" }, spoilt], [{ name: "x".repeat(999) }, spoilt], [{ zkit: 2 }, other], [{ zkit: undefined }, text],
+        [{ answers: Array(20001).fill("look") }, "it has more than 20,000 lines and keys"],
+        [{ answers: ["look", "x".repeat(256)] }, "it has a line of more than 255 characters"],
+        [{ answers: ["look\nlook"] }, "it has a line end inside a line"],
+        [{ answers: ["look\r"] }, "it has a line end inside a line"],
     ];
-    for (const [i, part] of bad.entries()) {
+    for (const [i, [part, words]] of bad.entries()) {
         await page.drop(Buffer.from(JSON.stringify({ ...play, ...part })), `bad${i}.json`);
-        await page.until((words) => document.getElementById("told").textContent === words,
-            `bad${i}.json: not a story: it is a text file`);
+        await page.until((wanted) => document.getElementById("told").textContent === wanted,
+            `bad${i}.json: ${words === text ? "" : "this play can't be shown: "}${words}${words === text ? "" : "."}`);
     }
+}
+
+/** A link to a play that is not shown has its words too, and the play that is on stays. */
+async function refusedLink(page) {
+    const play = { zkit: 1, ifid: "ZCODE-1-261127-15E0", name: "x", story: "", seed: "1", told: "", answers: ["x".repeat(256)] };
+    const hash = `#play=0${Buffer.from(JSON.stringify(play)).toString("base64url")}`;
+    const words = "The link: this play can't be shown: it has a line of more than 255 characters.";
+    await page.fresh(hash);
+    same(await page.told(), words);
+    await page.open(MENU);
+    await page.say("hello");
+    await page.keeps(1);
+    await page.run((it) => { location.hash = it; }, hash);
+    await page.until((it) => document.getElementById("told").textContent === it, words);
+    await page.say("roll");
+    same(await page.transcript(), native(["play", "--echo", MENU], "hello\nroll\n").text, "the transcript");
 }
 
 async function badLink(page) {
@@ -418,7 +441,7 @@ async function badLink(page) {
     await page.ready();
     same(await page.told(), words);
     same(await page.text("title"), "menu.z5", "the story after a link that is cut off");
-    holds((await page.text("log")).includes(">hello"), await page.text("log"));
+    holds((await page.text("scroller")).includes(">hello"), await page.text("scroller"));
 }
 
 async function box(page) {
@@ -440,7 +463,7 @@ async function menu(page) {
     await page.browser.press("n");
     await page.until(() => document.getElementById("upper").textContent.includes("> Who made it"));
     await page.browser.press("Enter");
-    await page.until(() => document.getElementById("log").textContent.includes("A test did."));
+    await page.until(() => document.getElementById("scroller").textContent.includes("A test did."));
     // keys that the browser takes for itself are not the story's
     for (const key of [{ ctrlKey: true }, { metaKey: true }, { altKey: true }, { isComposing: true }])
         await page.run((it) => !document.body.dispatchEvent(new KeyboardEvent("keydown", { key: "q", bubbles: true, ...it })), key);
@@ -456,9 +479,9 @@ async function blorbFile(page) {
     await page.fresh();
     const file = blorb(readFileSync(z(8)));
     await page.drop(file, "lighthouse.zblorb");
-    await page.until(() => document.getElementById("title").textContent === "lighthouse.zblorb");
+    await page.until(() => document.getElementById("title").title === "lighthouse.zblorb");
     await page.rests();
-    holds((await page.text("log")).includes("Jetty"), "the story does not begin");
+    holds((await page.text("scroller")).includes("Jetty"), "the story does not begin");
     await page.drop(file.subarray(0, 9000), "cut.zblorb");
     await page.until(() => document.getElementById("told").textContent.includes("cut off"));
     await page.say("look");
@@ -494,7 +517,7 @@ async function withoutEnd(page) {
     await page.say("print");
     await page.until(() => document.getElementById("running-words").textContent.includes("printed a lot"));
     await page.click("#go-on");
-    await page.until(() => document.getElementById("log").getAttribute("aria-busy") === "false");
+    await page.until(() => document.getElementById("play").dataset.busy === "false");
     await page.until(() => document.getElementById("running-words").textContent.includes("printed a lot"));
     const blocks = await page.run(() => document.querySelectorAll(".turn").length);
     holds(blocks <= 81, `${blocks} blocks stand in the page`);
@@ -529,7 +552,7 @@ async function undo(page, version) {
     await page.sayAll(["open bag", "north"]);
     await page.click("#undo");
     await page.rests();
-    await page.until(() => !document.getElementById("log").textContent.includes("Shore Path"));
+    await page.until(() => !document.getElementById("scroller").textContent.includes("Shore Path"));
     await page.say("look");
     same(await page.transcript(), native(["play", "--echo", z(version)], "open bag\nlook\n").text, "the transcript");
 }
@@ -545,7 +568,7 @@ async function undoAfterReload(page) {
     await page.reload();
     await page.rests();
     await page.click("#undo");
-    await page.until(() => document.querySelectorAll("#log .typed").length === 1);
+    await page.until(() => document.querySelectorAll("#scroller .typed").length === 1);
     await page.rests();
     await page.say("roll");
     same(await page.transcript(), native(["play", "--echo", MENU], "roll\nroll\n").text, "the transcript");
@@ -556,7 +579,7 @@ async function undoOfStory(page) {
     await page.open(z(5));
     await page.sayAll(["undo on", "north"]);
     await page.click("#undo");
-    await page.until(() => document.querySelectorAll("#log .turn").length > 3);
+    await page.until(() => document.querySelectorAll("#scroller .turn").length > 3);
     await page.rests();
     await page.say("look");
     const text = await page.transcript();
@@ -717,17 +740,17 @@ async function keyboard(page) {
 async function reflow(page) {
     await page.fresh();
     await page.open(z(5));
-    const joins = () => page.run(() => [...document.querySelectorAll("#log .soft")].length);
+    const joins = () => page.run(() => [...document.querySelectorAll("#scroller .soft")].length);
     const count = await joins();
     holds(count >= 5, `${count} lines were joined`);
-    const text = await page.run(() => document.getElementById("log").innerText);
+    const text = await page.run(() => document.getElementById("scroller").innerText);
     holds(text.includes("Your boat tugs at its rope.") && text.includes("HELP gives help.\n"), text);
     await page.say("open bag");
-    const before = [await joins(), await page.text("prompt"), await page.text("log")];
+    const before = [await joins(), await page.text("prompt"), await page.text("scroller")];
     await page.keeps(1);
     await page.reload();
     await page.rests();
-    const after = [await joins(), await page.text("prompt"), await page.text("log")];
+    const after = [await joins(), await page.text("prompt"), await page.text("scroller")];
     same(after.join(), before.join(), "the joined lines, the prompt and the text after a reload");
     await page.open(MENU);
     await page.say("hello");
@@ -752,9 +775,9 @@ async function wraps(page) {
         const tries = WRAPS.filter(([of]) => of === width);
         const parts = tries.map(([, line, next]) => `${line}\n${next}\n\n`);
         await page.drop(telling(`${"w".repeat(width)}\n\n${parts.join("")}>`), `wide${width}.z5`);
-        await page.until((name) => document.getElementById("title").textContent === name, `wide${width}.z5`);
+        await page.until((name) => document.getElementById("title").title === name, `wide${width}.z5`);
         await page.rests();
-        const softs = await page.run(() => [...document.querySelectorAll("#log .soft")].map((it) => {
+        const softs = await page.run(() => [...document.querySelectorAll("#scroller .soft")].map((it) => {
             const before = it.previousSibling.textContent.split("\n").pop();
             return `${before}+${it.nextSibling.textContent.split("\n")[0]}`;
         }));
@@ -814,6 +837,7 @@ export const CASES = [
     ["back to a line, and to the end again", linesBackAndForth],
     ["a play as a file", playFile],
     ["a link that is cut off", badLink],
+    ["a link to a play that is not shown", refusedLink],
     ["plays that are none", badPlays],
     ["a box", box],
     ["a menu", menu],
@@ -837,6 +861,7 @@ export const CASES = [
     ["lines that just fit, and that just do not", wraps],
     ...KEEPING,
     ...USING,
+    ...PERSON,
     ["360 pixels wide", narrow],
     ["contrast of all texts", contrast],
     ["roles and names", named],

@@ -77,8 +77,28 @@ export class Chromium {
     async open() {
         const { targetId } = await this.pipe.send("Target.createTarget", { url: "about:blank" });
         const { sessionId } = await this.pipe.send("Target.attachToTarget", { targetId, flatten: true });
-        this.call = (method, params) => this.pipe.send(method, params, sessionId);
+        this.here = { targetId, call: (method, params) => this.pipe.send(method, params, sessionId) };
+        this.call = this.here.call;
         await Promise.all(["Page.enable", "Runtime.enable", "Log.enable", "DOM.enable"].map((method) => this.call(method)));
+    }
+
+    /** Opens another tab of the same size and goes to it, and answers the one before. */
+    async tab() {
+        const before = this.here;
+        await this.open();
+        await this.size(...this.sized);
+        return before;
+    }
+
+    /** Goes to a tab, and answers the one before, which is closed if that is wanted. */
+    async goTo(tab, isClosing = false) {
+        const before = this.here;
+        this.here = tab;
+        this.call = tab.call;
+        await this.pipe.send("Target.activateTarget", { targetId: tab.targetId });
+        if (isClosing)
+            await this.pipe.send("Target.closeTarget", { targetId: before.targetId });
+        return before;
     }
 
     version() {
@@ -90,6 +110,7 @@ export class Chromium {
     }
 
     async size(width, height, scale = 1) {
+        this.sized = [width, height, scale];
         await this.call("Emulation.setDeviceMetricsOverride", { width, height, deviceScaleFactor: scale, mobile: false });
     }
 
@@ -127,10 +148,27 @@ export class Chromium {
         await Promise.all([down, { type: "keyUp", ...it }].map((event) => this.call("Input.dispatchKeyEvent", event)));
     }
 
+    /** Puts a text on the clipboard, and pastes it by the keys. */
+    async paste(text) {
+        await this.pipe.send("Browser.grantPermissions", { permissions: ["clipboardReadWrite", "clipboardSanitizedWrite"] });
+        await this.run((it) => navigator.clipboard.writeText(it), text);
+        const it = { key: "v", code: "KeyV", windowsVirtualKeyCode: 86, modifiers: 2 };
+        await this.call("Input.dispatchKeyEvent", { type: "rawKeyDown", commands: ["paste"], ...it });
+        await this.call("Input.dispatchKeyEvent", { type: "keyUp", ...it });
+    }
+
     /** Clicks at a place by the mouse. */
     async mouse(x, y) {
         const events = ["mouseMoved", "mousePressed", "mouseReleased"].map((type) => ({ type, x, y, button: "left", clickCount: 1 }));
         await Promise.all(events.map((event) => this.call("Input.dispatchMouseEvent", event)));
+    }
+
+    /** Taps at a place by a finger. */
+    async touch(x, y) {
+        await this.call("Emulation.setTouchEmulationEnabled", { enabled: true });
+        const touch = (type, touchPoints) => this.call("Input.dispatchTouchEvent", { type, touchPoints });
+        await Promise.all([touch("touchStart", [{ x, y }]), touch("touchEnd", [])]);
+        await this.call("Emulation.setTouchEmulationEnabled", { enabled: false });
     }
 
     async choose(id, path) {

@@ -12,6 +12,7 @@ const KEYS = {
     ArrowLeft: "\uE012", Backspace: "\uE003", PageUp: "\uE00E", PageDown: "\uE00F", Home: "\uE011", End: "\uE010",
 };
 const SHIFT = "\uE008";
+const CONTROL = "\uE009";
 const ELEMENT = "element-6066-11e4-a52e-4f735466cecf";
 
 export function program() {
@@ -24,6 +25,7 @@ function preferences(folder) {
         "browser.helperApps.neverAsk.saveToDisk": "application/octet-stream", "browser.download.alwaysOpenPanel": false,
         "browser.shell.checkDefaultBrowser": false, "datareporting.policy.dataSubmissionEnabled": false,
         "app.update.enabled": false, "network.captive-portal-service.enabled": false, "browser.startup.page": 0,
+        "dom.events.testing.asyncClipboard": true,
     };
     return Object.entries(set).map(([name, value]) => `user_pref("${name}", ${JSON.stringify(value)});\n`).join("");
 }
@@ -114,6 +116,21 @@ export class Firefox {
         await this.wire.send("WebDriver:SetWindowRect", { width: 2 * width - w, height: 2 * height - h });
     }
 
+    /** Opens another tab and goes to it, and answers the one before. */
+    async tab() {
+        const { handle } = await this.wire.send("WebDriver:NewWindow", { type: "tab" });
+        return this.goTo(handle);
+    }
+
+    /** Goes to a tab, and answers the one before, which is closed if that is wanted. */
+    async goTo(handle, isClosing = false) {
+        const { value: before } = await this.wire.send("WebDriver:GetWindowHandle");
+        if (isClosing)
+            await this.wire.send("WebDriver:CloseWindow");
+        await this.wire.send("WebDriver:SwitchToWindow", { handle });
+        return before;
+    }
+
     async go(url) {
         await this.wire.send("WebDriver:Navigate", { url: "about:blank" });
         await this.wire.send("WebDriver:Navigate", { url });
@@ -143,10 +160,23 @@ export class Firefox {
         await this.keys(KEYS[key] || key, isShifted ? shift : [], isShifted ? [{ ...shift[0], type: "keyUp" }] : []);
     }
 
+    /** Puts a text on the clipboard, and pastes it by the keys. */
+    async paste(text) {
+        await this.run((it) => navigator.clipboard.writeText(it), text);
+        await this.keys("v", [{ type: "keyDown", value: CONTROL }], [{ type: "keyUp", value: CONTROL }]);
+    }
+
     /** Clicks at a place by the mouse. */
     async mouse(x, y) {
         const actions = [{ type: "pointerMove", x, y }, { type: "pointerDown", button: 0 }, { type: "pointerUp", button: 0 }];
         await this.wire.send("WebDriver:PerformActions", { actions: [{ type: "pointer", id: "mouse", actions }] });
+    }
+
+    /** Taps at a place by a finger. */
+    async touch(x, y) {
+        const actions = [{ type: "pointerMove", x, y }, { type: "pointerDown", button: 0 }, { type: "pointerUp", button: 0 }];
+        const finger = { type: "pointer", id: "finger", parameters: { pointerType: "touch" }, actions };
+        await this.wire.send("WebDriver:PerformActions", { actions: [finger] });
     }
 
     async choose(id, path) {

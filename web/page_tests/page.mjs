@@ -41,6 +41,43 @@ export function holds(condition, words) {
         throw new Error(words);
 }
 
+/** In the page: whether the newest turn is read from its start: its line, or where none was typed its first text. */
+function newestIsSeen() {
+    const scroller = document.getElementById("scroller");
+    const around = scroller.getBoundingClientRect();
+    const [it] = [...scroller.querySelectorAll(".typed, .note")].slice(-1);
+    const { top, bottom } = (it || scroller.querySelector(".text")).getBoundingClientRect();
+    const left = scroller.scrollHeight - scroller.scrollTop - scroller.clientHeight;
+    const isLow = left < 2 || top < around.top + 100;
+    return scroller.clientHeight > 0 && top >= around.top && bottom <= around.bottom && isLow;
+}
+
+/**
+ * In the page: notes what a screen reader speaks from now on: what is added to a live region or changed in it, as often as
+ * that happens.
+ */
+function hearInPage() {
+    window.spoken = [];
+    const regionOf = (node) => (node.nodeType === Node.TEXT_NODE ? node.parentElement : node)?.closest("[aria-live], [role=log], [role=status]");
+    const speak = (region, text) => {
+        if (region && region.getClientRects().length && !region.closest("[aria-busy=true]") && text)
+            window.spoken.push([region.id, text]);
+    };
+    new MutationObserver((changes) => {
+        // (what was added with its parent is spoken with it)
+        const seen = new Set();
+        for (const { target, addedNodes } of changes) {
+            if (target.nodeType === Node.TEXT_NODE)
+                speak(regionOf(target), target.data);
+            for (const node of addedNodes)
+                if (target.isConnected && !seen.has(target))
+                    speak(regionOf(target), node.textContent);
+            for (const node of addedNodes)
+                [node, ...node.querySelectorAll?.("*") ?? []].forEach((it) => seen.add(it));
+        }
+    }).observe(document.body, { childList: true, characterData: true, subtree: true });
+}
+
 /** In the page: where an element may be clicked; null where it is not seen, or something lies over it. */
 function placeInPage(selector) {
     const it = document.querySelector(selector);
@@ -129,6 +166,36 @@ export class Page {
         await this.browser.mouse(...await this.until(placeInPage, selector));
     }
 
+    /** Taps by a finger in the same way. */
+    async tap(selector) {
+        await this.browser.touch(...await this.until(placeInPage, selector));
+    }
+
+    /** Whether the newest turn is seen from its line on: as much of it as the view takes. */
+    newestIsSeen() {
+        return this.run(newestIsSeen);
+    }
+
+    /** Notes from now on what a screen reader speaks. */
+    hear() {
+        return this.run(hearInPage);
+    }
+
+    /** What was spoken since this was asked before: the texts of each live region. */
+    async heard() {
+        const all = await this.run(() => window.spoken.splice(0));
+        const of = (id) => all.filter(([region]) => region === id).map(([, text]) => text);
+        return { log: of("log").join(""), said: of("spoken").join("|"), told: of("told").join("|") };
+    }
+
+    /** What has the focus, and where the caret is in it. */
+    focus() {
+        return this.run(() => {
+            const it = document.activeElement;
+            return `${it?.id || it?.tagName} ${it?.selectionStart ?? "-"}`;
+        });
+    }
+
     /** Chooses a button of the menu. */
     async menu(id) {
         await this.click("#show-menu");
@@ -158,7 +225,7 @@ export class Page {
 
     /** Until the story awaits a line or a key, or has ended. */
     rests() {
-        return this.until(() => document.getElementById("log").getAttribute("aria-busy") === "false"
+        return this.until(() => document.getElementById("play").dataset.busy === "false"
             && ["ask", "over", "running"].some((id) => !document.getElementById(id).hidden)
             || document.querySelector("dialog[open]") !== null);
     }
@@ -184,7 +251,7 @@ export class Page {
     /** Opens a story by the page's field for files, and waits for its first read. */
     async open(path) {
         await this.choose(path);
-        await this.until((name) => document.getElementById("title").textContent === name, basename(path));
+        await this.until((name) => document.getElementById("title").title === name, basename(path));
         await this.rests();
     }
 

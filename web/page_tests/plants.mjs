@@ -85,4 +85,4 @@ async function main() {
     process.exit();
 }
 
-await main();
+main();

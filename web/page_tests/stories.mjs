@@ -78,6 +78,12 @@ export function restoringWindow() {
         0xf6, 0x7f, 0x01, 0x12, 0xba]);
 }
 
+/** A story that prints a line in bold and a text in roman, and then reads lines. */
+export function titled(title, text) {
+    const style = (number) => [0xf1, 0x7f, number];
+    return storyOf([...style(2), ...printed(title), ...style(0), ...printed(`\n${text}`), ...READ, ...jumpBack(READ.length)]);
+}
+
 /** A story that reads a line, and then saves again and again, whatever is answered. */
 export function asking() {
     return storyOf([...printed(">"), ...READ, 0xbe, 0x00, 0xff, 0x10, ...jumpBack(4)]);
@@ -89,11 +95,11 @@ export function restoring(count, text) {
     return storyOf([...restores, ...printed(text), ...READ, ...jumpBack(READ.length)]);
 }
 
-/** A story that runs twelve million instructions and prints a text before each line that it reads. */
-export function counting(text) {
+/** A story that prints a text, runs twelve million instructions and prints another one before each line that it reads. */
+export function counting(text, before = "") {
     // store global 1, 0; store global 0, 0; inc_chk global 0, 30000 ?~ again; inc_chk global 1, 399 ?~ back to the second one
     const count = [0x0d, 0x11, 0, 0x0d, 0x10, 0, 0xc5, 0x4f, 0x10, 0x75, 0x30, 0x3f, 0xfb, 0xc5, 0x4f, 0x11, 0x01, 0x8f, 0x3f, 0xf1];
-    const all = [...count, ...printed(text), ...READ];
+    const all = [...printed(before), ...count, ...printed(text), ...READ];
     return storyOf([...all, ...jumpBack(all.length)]);
 }
 

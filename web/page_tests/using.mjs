@@ -7,13 +7,13 @@ import { asking, counting, repeating, restoring, styled, telling, tellingStatus 
 
 const Z5 = join(EXAMPLES, "lighthouse.z5");
 
-const typedLines = () => [...document.querySelectorAll("#log .typed")].map((it) => it.textContent.trimEnd()).join();
+const typedLines = () => [...document.querySelectorAll("#scroller .typed")].map((it) => it.textContent.trimEnd()).join();
 const lineNow = () => document.getElementById("line").value;
 
 /** Drops a story, and waits for its first read. */
 async function play(page, story, name) {
     await page.drop(story, name);
-    await page.until((title) => document.getElementById("title").textContent === title, name);
+    await page.until((title) => document.getElementById("title").title === title, name);
     await page.rests();
 }
 
@@ -24,7 +24,7 @@ async function typedAhead(page) {
     const lines = ["one", "two", "two", "three", "four"];
     for (const line of lines)
         await page.send(line);
-    await page.until((wanted) => [...document.querySelectorAll("#log .typed")].length === wanted, lines.length);
+    await page.until((wanted) => [...document.querySelectorAll("#scroller .typed")].length === wanted, lines.length);
     await page.rests();
     same(await page.run(typedLines), lines.join(), "the lines that were typed ahead");
 }
@@ -66,7 +66,7 @@ async function keysByButtons(page) {
     await page.browser.press("n");
     await page.rests();
     await page.click("#enter");
-    await page.until(() => document.getElementById("log").textContent.includes("A test did."));
+    await page.until(() => document.getElementById("scroller").textContent.includes("A test did."));
     await page.rests();
     await page.browser.press("q");
     await page.until(() => document.getElementById("asked").textContent !== "Press a key");
@@ -103,8 +103,8 @@ async function undoFar(page) {
     await page.sayAll(Array.from({ length: 35 }, (_, i) => i % 5 ? "roll" : "hello"));
     for (let left = 34; left > 0; left--) {
         await page.click("#undo");
-        await page.until((count) => document.getElementById("log").getAttribute("aria-busy") === "false"
-            && document.querySelectorAll("#log .typed").length === count, left);
+        await page.until((count) => document.getElementById("play").dataset.busy === "false"
+            && document.querySelectorAll("#scroller .typed").length === count, left);
     }
     same(await page.transcript(), native(["play", "--echo", MENU], "hello\n").text, "the transcript");
     await page.open(Z5);
@@ -170,14 +170,14 @@ async function restoresFirst(page) {
         await page.shown("restoring");
         await page.click("#restore-none");
     }
-    await page.until(() => document.getElementById("log").textContent.includes("Begun."));
+    await page.until(() => document.getElementById("scroller").textContent.includes("Begun."));
     await page.rests();
     same(await page.run(() => document.querySelector("dialog[open]")?.id ?? ""), "", "the window at the first read");
     await page.sayAll(["one", "two"]);
     same(await page.transcript(), wanted("one\ntwo\n"), "the transcript");
     await page.lines();
     await page.click("#line-list li:last-child button");
-    await page.until(() => document.querySelectorAll("#log .typed").length === 1);
+    await page.until(() => document.querySelectorAll("#scroller .typed").length === 1);
     await page.rests();
     same(await page.run(() => document.querySelector("dialog[open]")?.id ?? ""), "", "the window where a line is gone to");
     same(await page.transcript(), wanted("one\n"), "the transcript before the second line");
@@ -190,8 +190,8 @@ async function leftQuestion(page) {
     await page.say("go");
     await page.shown("saving");
     await page.drop(readFileSync(MENU), "menu.z5");
-    await page.until(() => document.getElementById("title").textContent === "menu.z5");
-    await page.until(() => document.getElementById("log").textContent.includes("A hall."));
+    await page.until(() => document.getElementById("title").title === "menu.z5");
+    await page.until(() => document.getElementById("scroller").textContent.includes("A hall."));
     await page.leave();
     await page.rests();
     await page.say("roll");
@@ -203,16 +203,16 @@ async function longLines(page) {
     await page.fresh();
     const text = `${"x".repeat(7000)}\nsecond\nthird\n${"y".repeat(3000)}\n${"z".repeat(5000)}\nlast\n`;
     await play(page, telling(`${text}>`), "lines.z5");
-    const parts = await page.run(() => [...document.querySelectorAll("#log .turn span.text")].map((it) => it.textContent));
+    const parts = await page.run(() => [...document.querySelectorAll("#scroller .turn span.text")].map((it) => it.textContent));
     same(parts.join(""), text, "the text");
     holds(parts.length > 1 && parts.every((part) => part.endsWith("\n")), `${parts.map((part) => part.slice(-9)).join("|")}`);
 }
 
 /** Text has its styles, beside others in a line too, and what comes after an erasure stands in a part of its own. */
 async function styles(page) {
-    const parts = () => [...document.querySelectorAll("#log .text")].map((text) => [...text.childNodes].map((node) =>
+    const parts = () => [...document.querySelectorAll("#scroller .text")].map((text) => [...text.childNodes].map((node) =>
         node.nodeType === Node.TEXT_NODE ? node.textContent : `${node.className}:${node.textContent}`).join("|")).join("/");
-    const looks = () => ["bold", "italic"].map((style) => getComputedStyle(document.querySelector(`#log .${style}`)))
+    const looks = () => ["bold", "italic"].map((style) => getComputedStyle(document.querySelector(`#scroller .${style}`)))
         .map((look) => `${look.fontWeight} ${look.fontStyle}`).join();
     await page.fresh();
     await play(page, styled(), "styled.z5");
@@ -231,7 +231,7 @@ async function startOfAnswer(page) {
     const [top, bottom, line, left] = await page.run(() => {
         const scroller = document.getElementById("scroller");
         const around = scroller.getBoundingClientRect();
-        const typed = document.querySelector("#log .typed").getBoundingClientRect();
+        const typed = document.querySelector("#scroller .typed").getBoundingClientRect();
         return [around.top, around.bottom, typed.top, scroller.scrollHeight - scroller.clientHeight - scroller.scrollTop];
     });
     holds(line >= top && line < top + (bottom - top) / 4, `the line is at ${line} between ${top} and ${bottom}`);
@@ -254,7 +254,7 @@ async function draggedFile(page) {
 async function longRun(page) {
     await page.fresh();
     await play(page, counting("Done.\n>"), "counts.z5");
-    holds((await page.text("log")).includes("Done."), await page.text("log"));
+    holds((await page.text("scroller")).includes("Done."), await page.text("scroller"));
 }
 
 /** Where a story was played before, the reader goes on or starts over. */
@@ -270,7 +270,7 @@ async function continues(page) {
         await page.asks("Continue?", "Continue where I was", "Start over");
         same(await page.text("asking-words"), "You have played this story here before.");
         await page.click(`#${button}`);
-        await page.until(() => document.getElementById("title").textContent === "menu.z5");
+        await page.until(() => document.getElementById("title").title === "menu.z5");
         await page.rests();
         same(await page.transcript(), wanted, `the transcript after ${button}`);
     }
@@ -287,7 +287,7 @@ async function twelvePlays(page) {
     await page.drop(story(1), "story1.z5");
     await page.shown("asking");
     await page.click("#asking-yes");
-    await page.until(() => document.getElementById("title").textContent === "story1.z5");
+    await page.until(() => document.getElementById("title").title === "story1.z5");
     await page.rests();
     await play(page, story(0), "story0.z5");
     same(await page.run(() => document.querySelector("dialog[open]")?.id ?? ""), "", "the window at a play that is not kept");
@@ -321,7 +321,7 @@ async function otherStory(page) {
     await page.until(() => document.getElementById("invitation").textContent.includes("IFID"));
     await page.choose(Z5);
     await page.click("#asking-yes");
-    await page.until(() => document.getElementById("title").textContent === "lighthouse.z5");
+    await page.until(() => document.getElementById("title").title === "lighthouse.z5");
     await page.rests();
     same(await page.transcript(), native(["play", Z5]).text, "the transcript of the other story");
 }
@@ -341,7 +341,7 @@ async function ownPlayInIt(page) {
     await page.until(() => !document.querySelector("dialog[open]"));
     same(await page.run(typedLines), "roll", "the lines of the play that was kept");
     await give(["roll", "hello"]);
-    await page.until(() => document.querySelectorAll("#log .typed").length === 2);
+    await page.until(() => document.querySelectorAll("#scroller .typed").length === 2);
     await page.rests();
     same(await page.run(typedLines), "roll,hello", "the lines of the play that goes on from there");
 }
@@ -360,7 +360,7 @@ async function longestLink(page) {
         if (!isOffered)
             await page.click("#asking-yes");
         await page.until((lines) => document.getElementById("told").textContent.includes("not the same")
-            && [...document.querySelectorAll("#log .typed")].pop()?.textContent === `${lines.pop()}\n`, answers);
+            && [...document.querySelectorAll("#scroller .typed")].pop()?.textContent === `${lines.pop()}\n`, answers);
         await page.lines();
         await page.until(() => document.querySelector("#lines[open] #line-list li"));
         const isShown = await page.until(() => document.getElementById("copy-link").onclick
@@ -387,13 +387,15 @@ async function strangePlays(page) {
     ];
     for (const [i, part] of bad.entries()) {
         await page.drop(Buffer.from(JSON.stringify({ ...play0, ...part })), `bad${i}.json`);
-        await page.until((words) => document.getElementById("told").textContent === words,
-            `bad${i}.json: not a story: it is a text file`);
+        const words = part.zkit ? "it was made by another version of this page" : "it is damaged";
+        await page.until((it) => document.getElementById("told").textContent === it,
+            `bad${i}.json: this play can't be shown: ${words}.`);
     }
     const answers = ["look", 0x10ffff, 0, { saved: true }, { restored: null }, { restored: "AA==" }, { undo: true }, { fresh: true }];
-    const good = { name: "y".repeat(300), seed: "1".repeat(20), answers };
+    const longest = Array.from({ length: 20000 - answers.length }, (_, i) => i ? "x" : "x".repeat(255));
+    const good = { name: "y".repeat(300), seed: "1".repeat(20), answers: [...answers, ...longest] };
     await page.drop(Buffer.from(JSON.stringify({ ...play0, ...good })), "good.json");
-    await page.until(() => document.getElementById("invitation").textContent.includes("yyy, 4 lines long"));
+    await page.until(() => document.getElementById("invitation").textContent.includes("yyy, 19996 lines long"));
 }
 
 /** A seed is a number up to 2^64 - 1; another text gives the usual one. */
@@ -409,7 +411,7 @@ async function seeds(page) {
         await page.until(() => document.getElementById("asking").open || !document.querySelector("dialog[open]"));
         if (await page.isShown("asking"))
             await page.click("#asking-yes");
-        await page.until(() => !document.querySelector("#log .typed"));
+        await page.until(() => !document.querySelector("#scroller .typed"));
         await page.rests();
         await page.say("roll");
         same(await page.transcript(), native(["play", "--echo", "--seed", seed, MENU], "roll\n").text, `the seed ${typed}`);
@@ -513,7 +515,7 @@ async function meanings(page) {
         const notes = native(["check", "--notes", file]).text.trimEnd().split("\n");
         const wanted = notes.map((line) => `${line.split(" ")[0]}: ${line.replace(/^.*?; (object \d+: )?/, "")}`);
         await page.drop(bytes, basename(file));
-        await page.until((name) => document.getElementById("title").textContent === name, basename(file));
+        await page.until((name) => document.getElementById("title").title === name, basename(file));
         await page.click("#show-inside");
         await page.until(() => document.getElementById("panel").getAttribute("aria-busy") === "false");
         const found = await page.run(() => [...document.querySelectorAll("#drawing li")].map((it) => it.textContent));
