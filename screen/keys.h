@@ -28,7 +28,9 @@ enum {
     PRESS_HELP = -19,
     PRESS_SEED = -20,
     PRESS_REDRAW = -21,     /* no key: the terminal has another size, or is back */
-    PRESS_GONE = -22        /* no key: the terminal is gone, or the program was told to end */
+    PRESS_GONE = -22,       /* no key: the terminal is gone, or the program was told to end */
+    PRESS_F12 = -50,
+    PRESS_F2 = -60          /* F3 is one more, and so on up to F12 */
 };
 
 #endif

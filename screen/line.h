@@ -31,6 +31,7 @@ struct editor {
     size_t stem;            /* where the word begins that is completed, */
     size_t stem_end;        /* where what was typed of it ends, */
     size_t tabs;            /* and how often Tab was pressed for it: 0 if it is not completed */
+    bool is_for_story;      /* a key may end it that means something to the story */
 };
 
 void history_add(struct history *history, const struct line *line);

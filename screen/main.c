@@ -102,6 +102,7 @@ static int take_words(const struct words *words) {
     play.options.steps = MOST_STEPS;
     play.options.room = ROOM;
     play.options.styles = 1;
+    play.options.keys = 1;
     clock_gettime(CLOCK_REALTIME, &now);
     play.options.seed = (uint64_t)now.tv_sec * 1000 + (uint64_t)now.tv_nsec / 1000000;
     if (words->seed && !number_of(words->seed, &play.options.seed))

@@ -91,16 +91,42 @@ static void complete(struct editor *editor) {
         beep();
 }
 
+/* What a story gets for a key that it awaits: a character, a key of its character set, or 0. */
+static uint32_t for_story(key pressed) {
+    if (pressed >= PRESS_F2 && pressed <= PRESS_F12)
+        return ZKIT_KEY_F1 + 1 + (uint32_t)(pressed - PRESS_F2);
+    switch (pressed) {
+    case PRESS_UP: return ZKIT_KEY_UP;
+    case PRESS_DOWN: return ZKIT_KEY_DOWN;
+    case PRESS_LEFT: return ZKIT_KEY_LEFT;
+    case PRESS_RIGHT: return ZKIT_KEY_RIGHT;
+    case PRESS_BACKSPACE:
+    case PRESS_DELETE: return ZKIT_KEY_DELETE;
+    case PRESS_ESCAPE: return ZKIT_KEY_ESCAPE;
+    default: return pressed > 0 ? (uint32_t)pressed : 0;
+    }
+}
+
+/* Whether a key may end a line of a story that lists it. */
+static bool is_function_key(key pressed) {
+    return pressed < 0 && for_story(pressed) >= ZKIT_KEY_UP;
+}
+
+static void add_line(struct play *play, const struct line *line) {
+    for (size_t i = 0; i < line->length; i++)
+        text_add(&play->text, line->at[i], 0);
+}
+
 key edit(struct play *play, struct editor *editor) {
     place start = text_end(&play->text);
     for (;;) {
         text_cut(&play->text, start);
-        for (size_t i = 0; i < editor->line.length; i++)
-            text_add(&play->text, editor->line.at[i], 0);
+        add_line(play, &editor->line);
         play->cursor = text_end(&play->text) - (editor->line.length - editor->cursor);
         key pressed = play_key(play);
+        bool may_end = editor->is_for_story && is_function_key(pressed);
         if (pressed == L'\n' || pressed == PRESS_STOP || pressed == PRESS_ESCAPE || pressed == PRESS_UNDO
-            || pressed == PRESS_GONE) {
+            || pressed == PRESS_GONE || may_end) {
             play->cursor = text_end(&play->text);
             return pressed;
         }
@@ -117,16 +143,36 @@ static void undo(struct play *play) {
         notice(play, "[There is nothing to take back.]");
 }
 
+/* Gives the story what was typed, with the key that ended it. Answers whether that ends a line of the story. */
+static bool give_line(struct play *play, const struct line *line, key pressed) {
+    char bytes[4 * LONGEST_LINE + 1];
+    size_t count = bytes_of(line->at, line->length, bytes);
+    const uint8_t *text = (const uint8_t *)bytes;
+    uint32_t given = pressed == L'\n' ? zkit_line(play->game, text, count)
+                                      : zkit_line_ended(play->game, text, count, for_story(pressed));
+    if (given != ZKIT_DONE)
+        return false;
+    play->seen = text_end(&play->text);
+    play->keyed = 0;
+    history_add(&play->lines, line);
+    note_answer(play, line);
+    return true;
+}
+
 static enum fate answer_line(struct play *play) {
     struct editor editor;
-    char bytes[4 * LONGEST_LINE + 1];
     place start = text_end(&play->text);
     editor_begin(&editor, &play->lines, zkit_longest_line(play->game));
+    editor.is_for_story = true;
     for (;;) {
         key pressed = edit(play, &editor);
         if (pressed == L'\n')
-            break;
+            text_add_words(&play->text, "\n");
+        if ((pressed == L'\n' || is_function_key(pressed)) && give_line(play, &editor.line, pressed))
+            return GOES_ON;
         text_cut(&play->text, start);
+        if (is_function_key(pressed))
+            editor_press(&editor, pressed);
         if (pressed == PRESS_GONE || (pressed == PRESS_STOP && ask_to_leave(play) == IS_LEFT))
             return IS_LEFT;
         if (pressed == PRESS_UNDO) {
@@ -134,18 +180,6 @@ static enum fate answer_line(struct play *play) {
             return GOES_ON;
         }
     }
-    text_add_words(&play->text, "\n");
-    play->seen = text_end(&play->text);
-    play->keyed = 0;
-    history_add(&play->lines, &editor.line);
-    note_answer(play, &editor.line);
-    zkit_line(play->game, (const uint8_t *)bytes, bytes_of(editor.line.at, editor.line.length, bytes));
-    return GOES_ON;
-}
-
-/* What a story gets for a key that it awaits: a character, or 0 for a key that is none. */
-static uint32_t for_story(key pressed) {
-    return pressed > 0 ? (uint32_t)pressed : 0;
 }
 
 static enum fate answer_character(struct play *play) {

@@ -145,6 +145,8 @@ static key control_key(wint_t character) {
 }
 
 static key named_key(wint_t code) {
+    if (code >= KEY_F(2) && code <= KEY_F(12))
+        return PRESS_F2 + (key)(code - KEY_F(2));
     switch (code) {
     case KEY_LEFT: return PRESS_LEFT;
     case KEY_RIGHT: return PRESS_RIGHT;

@@ -845,6 +845,17 @@ async function worker() {
     want(bold.join("|") === "Shore Path", `it tells what is bold: ${bold.join("|")}`);
     const fresh = await call("run", { answer: { fresh: true } });
     want(fresh.result.awaits === "line", "it goes on from a snapshot of its own in place of an answer");
+    await call("open", { story: restoringWindow(), options: {} });
+    await call("run", { answer: null });
+    const saved = Buffer.from((await call("image", {})).result).toString("base64");
+    await call("run", { answer: { saved: true } });
+    const back = await call("run", { answer: { restored: saved } });
+    want(back.result.awaits === "character" && back.result.rows.length === 1, "it gives the upper window back");
+    await call("open", { story: readingKeys(), options: {} });
+    await call("run", { answer: null });
+    shown = [];
+    await call("run", { answer: KEYS.ArrowLeft });
+    want(shown.map((run) => run.text).join("") === "131 ", "it gives keys");
 }
 
 async function main() {

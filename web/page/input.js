@@ -9,6 +9,12 @@ const ENTER = 10;
 const SPACE = 32;
 const LONGEST = 255;
 
+/**
+ * Keys that are no characters, by their codes in a story's character set. (The function keys are left to the browser.)
+ * @type {Record<string, number>}
+ */
+const KEYS = { Backspace: 8, Delete: 8, Escape: 27, ArrowUp: 129, ArrowDown: 130, ArrowLeft: 131, ArrowRight: 132 };
+
 /** A prompt of more characters than this stands above the field. */
 const SHORT = 12;
 
@@ -148,6 +154,12 @@ export class Input {
 
     /** @param {KeyboardEvent} event */
     keyInLine(event) {
+        const code = codeOf(event);
+        if (this.awaits === "character" && code !== null && event.key in KEYS) {
+            event.preventDefault();
+            this.give(code);
+            return;
+        }
         const up = { ArrowUp: -1, ArrowDown: 1 }[event.key];
         const page = { PageUp: -1, PageDown: 1 }[event.key];
         if (page) {
@@ -173,7 +185,7 @@ export class Input {
         if (this.awaits === "character") {
             event.preventDefault();
             this.give(code);
-        } else if (target !== scroller || code !== SPACE) {
+        } else if (!(event.key in KEYS) && (target !== scroller || code !== SPACE)) {
             line.focus({ preventScroll: true });
         }
     }
@@ -186,14 +198,14 @@ function putCaret() {
 }
 
 /**
- * The character of a key, or null where it has none.
+ * The character of a key, or its code in a story's character set; null where it has none.
  * @param {KeyboardEvent} event
  */
 function codeOf(event) {
     if (event.ctrlKey || event.metaKey || event.altKey || event.isComposing)
         return null;
-    if (event.key === "Enter")
-        return ENTER;
+    if (event.key === "Enter" || event.key in KEYS)
+        return KEYS[event.key] ?? ENTER;
     return [...event.key].length === 1 ? event.key.codePointAt(0) ?? null : null;
 }
 

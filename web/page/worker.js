@@ -12,7 +12,7 @@ const SLICE = 500000;
 const ROOM = 32768;
 
 /** A snapshot has the limits that the page gave its story, which may be any. */
-const ANY = { frames: 65535, words: 65535, undo: 64, steps: 1000000000, room: ROOM, styles: true };
+const ANY = { frames: 65535, words: 65535, undo: 64, steps: 1000000000, room: ROOM, styles: true, keys: true };
 
 /** So many characters come at most before the reader is asked whether to go on, and where a play is repeated. */
 const PAUSE = 200000;
@@ -85,6 +85,18 @@ function freshen() {
 }
 
 /**
+ * Gives the story a saved game, and its upper window back: stories past version 3 may think that it is still there.
+ * @param {Uint8Array} file
+ */
+function restore(file) {
+    const { height } = game.window();
+    const isTaken = game.restore(file);
+    if (isTaken && game.story().version > 3 && game.window().height < height)
+        game.split(height);
+    return isTaken;
+}
+
+/**
  * Gives the story an answer, and tells whether it took it.
  * @param {Answer} answer
  */
@@ -96,7 +108,7 @@ function give(answer) {
     if ("saved" in answer)
         return game.saved(answer.saved);
     if ("restored" in answer)
-        return game.restore(answer.restored === null ? null : fromBase64(answer.restored));
+        return answer.restored === null ? game.restore(null) : restore(fromBase64(answer.restored));
     return "undo" in answer ? game.undo() : freshen();
 }
 
@@ -214,7 +226,7 @@ const CALLS = {
         return module.version();
     },
     open: ({ story: bytes, options }) => {
-        replace((it) => it.open(bytes, { ...options, room: ROOM, styles: true }));
+        replace((it) => it.open(bytes, { ...options, room: ROOM, styles: true, keys: true }));
         story = bytes;
         return about(game);
     },

@@ -6,7 +6,7 @@ import { contrast, named } from "./access.mjs";
 import { KEEPING, blorb, spoilInPage } from "./keeping.mjs";
 import { EXAMPLES, MENU, basename, holds, join, linesOf, native, pause, readFileSync, same, sameWithKeys } from "./page.mjs";
 import { PERSON } from "./person.mjs";
-import { telling } from "./stories.mjs";
+import { readingKeys, telling } from "./stories.mjs";
 import { USING } from "./using.mjs";
 
 const z = (version) => join(EXAMPLES, `lighthouse.z${version}`);
@@ -444,6 +444,26 @@ async function badLink(page) {
     holds((await page.text("scroller")).includes(">hello"), await page.text("scroller"));
 }
 
+async function storyKeys(page) {
+    await page.fresh();
+    await page.drop(readingKeys(), "keys.z5");
+    await page.rests();
+    same(await page.text("asked"), "Press a key");
+    await page.browser.press("ArrowUp");
+    await page.until(() => document.getElementById("scroller").textContent.includes("129 "));
+    await page.rests();
+    same(await page.text("asked"), "What do you do?", "what is asked after a cursor key");
+    await page.browser.press("ArrowUp");
+    await page.say("x");
+    await page.until(() => document.getElementById("scroller").textContent.includes("13"));
+    for (const [key, code] of [["ArrowLeft", 131], ["Escape", 27], ["Backspace", 8], ["a", 97]]) {
+        await page.drop(readingKeys(), `${code}.z5`);
+        await page.rests();
+        await page.browser.press(key);
+        await page.until((it) => document.getElementById("scroller").textContent.includes(`${it} `), code);
+    }
+}
+
 async function box(page) {
     await page.fresh();
     await page.open(join(EXAMPLES, "box.z5"));
@@ -841,6 +861,7 @@ export const CASES = [
     ["plays that are none", badPlays],
     ["a box", box],
     ["a menu", menu],
+    ["keys that are no characters", storyKeys],
     ["a Blorb file", blorbFile],
     ["damaged files", damaged],
     ["stories without end", withoutEnd],
