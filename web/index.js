@@ -6,13 +6,19 @@ import { Module } from "./zkit.js";
 export * from "./zkit.js";
 
 /**
+ * Node's module of files, by a name that no bundler looks into.
+ * @type {string}
+ */
+const FILES = "node:fs/promises";
+
+/**
  * The bytes of a file by its address, in a page and in Node.
  * @param {URL | string} address
  */
 export async function bytesAt(address) {
     const url = new URL(address);
     if (url.protocol === "file:") {
-        const { readFile } = await import("node:fs/promises");
+        const { readFile } = await import(FILES);
         return new Uint8Array(await readFile(url));
     }
     const answer = await fetch(url);

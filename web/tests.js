@@ -799,6 +799,40 @@ function keys(module) {
     wantPlay(play({ keys: true }, KEYS.F12, 1.5), false, "", "no key");
 }
 
+/** What is no file or no number is refused before memory is taken for it, and a number may be a seed. */
+function badArguments(module) {
+    const story = example("lighthouse.z5");
+    const wrong = [
+        () => module.open("story"), () => module.open(story, { seed: 1.5 }), () => module.open(story, { seed: "x" }),
+        () => module.open(story, null), () => module.openSnapshot(story, "snapshot"), () => module.storyIn(5),
+    ];
+    const refuses = (call) => {
+        try {
+            call();
+        } catch (error) {
+            return !(error instanceof Refused);
+        }
+        return false;
+    };
+    want(wrong.every(refuses), "bad arguments: each is refused");
+    const before = module.calls.memory.buffer.byteLength;
+    for (let i = 0; i < 3000; i++)
+        wrong.forEach(refuses);
+    want(module.calls.memory.buffer.byteLength === before, "bad arguments: no memory is kept");
+    const numbers = (seed) => {
+        const game = module.open(story, { seed });
+        game.turn();
+        const snapshot = game.snapshot();
+        game.close();
+        return Buffer.from(snapshot).toString("hex");
+    };
+    want(numbers(7) === numbers(7n) && numbers(7) !== numbers(8), "bad arguments: a seed may be a number");
+    want(numbers(0) === numbers(0n), "bad arguments: so may 0");
+    const other = module.open(story.buffer.slice(story.byteOffset, story.byteOffset + story.length));
+    want(other.turn() === "line", "bad arguments: an ArrayBuffer is a file");
+    other.close();
+}
+
 /** The upper window is given back after a restore. */
 function split(module) {
     const game = module.open(restoringWindow());
@@ -861,8 +895,8 @@ async function worker() {
 async function main() {
     const tests = [
         rows, examples, windows, listings, refusals, wordsOfReasons, refusedFiles, limits, seeds, inputs, commands,
-        sums, figures, styles, keys, split, firstCharacters, lastLines, blorbs, snapshots, snapshotRefusals, thousand,
-        large, full, refusedRequests, refusedCalls, worker, generated,
+        sums, figures, styles, keys, split, badArguments, firstCharacters, lastLines, blorbs, snapshots,
+        snapshotRefusals, thousand, large, full, refusedRequests, refusedCalls, worker, generated,
     ];
     for (const test of NAMES.length === 0 ? tests : NAMES.map((name) => tests.find((it) => it.name === name))) {
         const begin = performance.now();
