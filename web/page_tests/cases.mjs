@@ -6,7 +6,7 @@ import { contrast, named } from "./access.mjs";
 import { KEEPING, blorb, spoilInPage } from "./keeping.mjs";
 import { EXAMPLES, MENU, basename, holds, join, linesOf, native, pause, readFileSync, same, sameWithKeys } from "./page.mjs";
 import { PERSON } from "./person.mjs";
-import { readingKeys, telling } from "./stories.mjs";
+import { echoingKeys, readingKeys, telling } from "./stories.mjs";
 import { USING } from "./using.mjs";
 
 const z = (version) => join(EXAMPLES, `lighthouse.z${version}`);
@@ -450,17 +450,18 @@ async function storyKeys(page) {
     await page.rests();
     same(await page.text("asked"), "Press a key");
     await page.browser.press("ArrowUp");
-    await page.until(() => document.getElementById("scroller").textContent.includes("129 "));
+    await page.until(() => document.getElementById("prompt").textContent === "129");
     await page.rests();
     same(await page.text("asked"), "What do you do?", "what is asked after a cursor key");
     await page.browser.press("ArrowUp");
     await page.say("x");
     await page.until(() => document.getElementById("scroller").textContent.includes("13"));
+    await page.drop(echoingKeys(), "echo.z5");
+    await page.rests();
     for (const [key, code] of [["ArrowLeft", 131], ["Escape", 27], ["Backspace", 8], ["a", 97]]) {
-        await page.drop(readingKeys(), `${code}.z5`);
-        await page.rests();
         await page.browser.press(key);
-        await page.until((it) => document.getElementById("scroller").textContent.includes(`${it} `), code);
+        await page.until((it) => document.getElementById("scroller").textContent.trim().endsWith(`${it}`), code);
+        await page.rests();
     }
 }
 

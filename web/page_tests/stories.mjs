@@ -71,6 +71,11 @@ export function readingKeys() {
     return story;
 }
 
+/** A story that reads characters, and shows the code of each on a line. */
+export function echoingKeys() {
+    return storyOf([0xf6, 0x7f, 0x01, 0x10, 0xe6, 0xbf, 0x10, 0xbb, ...jumpBack(8)]);
+}
+
 /** A story with a row in its upper window that saves, restores, and reads a character. */
 export function restoringWindow() {
     // split_window 1; save -> global 16; je global 16, 2 ?read; restore -> global 17; read: read_char 1 -> global 18; quit
