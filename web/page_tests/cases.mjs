@@ -457,7 +457,9 @@ async function storyKeys(page) {
     await page.say("x");
     await page.until(() => document.getElementById("scroller").textContent.includes("13"));
     await page.drop(echoingKeys(), "echo.z5");
+    await page.until(() => document.getElementById("title").textContent === "echo.z5");
     await page.rests();
+    await page.until(() => document.getElementById("asked").textContent === "Press a key");
     for (const [key, code] of [["ArrowLeft", 131], ["Escape", 27], ["Backspace", 8], ["a", 97]]) {
         await page.browser.press(key);
         await page.until((it) => document.getElementById("scroller").textContent.trim().endsWith(`${it}`), code);
