@@ -74,6 +74,7 @@ function* unmarked(parts) {
     /** @type {Uint8Array | null} */
     let front = new Uint8Array(0);
     for (const part of parts) {
+        /** @type {Uint8Array} */
         const bytes = front ? joined(front, part) : part;
         const hasMark = MARK.every((byte, i) => bytes[i] === byte);
         const mayHave = bytes.length < MARK.length && bytes.every((byte, i) => byte === MARK[i]);
