@@ -6,8 +6,9 @@ use Rattle.std.proofs.lemmas.Bool.Decides.{nat_tests}
 use Rattle.std.proofs.lemmas.List.{get_or-set_same, get_or-set_other, set-get_or, set_past}
 use Rattle.std.proofs.lemmas.Nat.Bits.{bit_at_and, bit_at_or, same_from_bits}
 use Rattle.std.proofs.Math.ListN.{length-set}
+use Rattle.zk_mem.specs.declared.memory.Setup.{Setup}
 use Rattle.zk_mem.specs.Fresh.{with_values, standard_fields, screen_fields_3, screen_fields_4, screen_fields_5}
-use Rattle.zk_mem.specs.Fresh.{with_group, with_fields, fresh}
+use Rattle.zk_mem.specs.Fresh.{with_group, with_fields, fresh, style_flags}
 use Rattle.zk_mem.specs.Laws.{SetAgainStays, FreshAgainStays}
 
 -- bits that are kept and bits that are set, twice
@@ -92,19 +93,19 @@ early_twice bytes =
     ap (with_group screen_fields_3) standard ∙ all_stay (screen_fields_3 two) two
     (set_stands two 0x01 (slice_index one 0x01) 0b10101111 0b00100000 (put_in (screen_fields_3 one) one 0x01), tt)
 
-fourth_twice : (bytes : List ℕ) → with_group screen_fields_4
-    (with_values standard_fields (with_group screen_fields_4 (with_values standard_fields bytes))) ≡ with_group
-    screen_fields_4 (with_values standard_fields bytes)
-fourth_twice bytes =
+fourth_twice : (setup : Setup) (bytes : List ℕ) → with_group (screen_fields_4 setup)
+    (with_values standard_fields (with_group (screen_fields_4 setup) (with_values standard_fields bytes))) ≡ with_group
+    (screen_fields_4 setup) (with_values standard_fields bytes)
+fourth_twice setup bytes =
     let one = with_values standard_fields bytes in
-    let ps = screen_fields_4 one in
+    let ps = screen_fields_4 setup one in
     let two = with_values ps one in
     let standard : with_values standard_fields two ≡ two = all_stay standard_fields two (
       put_all ps one 0x32 1 (put_in standard_fields bytes 0x32),
       (put_all ps one 0x33 1 (put_in standard_fields bytes 0x33), tt),
     ) in
-    ap (with_group screen_fields_4) standard
-    ∙ all_stay (screen_fields_4 two) two (
+    ap (with_group (screen_fields_4 setup)) standard
+    ∙ all_stay (screen_fields_4 setup two) two (
       put_in ps one 0x1e,
       (
         put_in ps one 0x1f,
@@ -113,7 +114,7 @@ fourth_twice bytes =
           (
             put_in ps one 0x21,
             (
-              set_stands two 0x01 (slice_index one 0x01) 0b01010000 0b00010000
+              set_stands two 0x01 (slice_index one 0x01) 0b01010000 (style_flags setup)
                   (put_in ps one 0x01),
               tt,
             ),
@@ -123,32 +124,33 @@ fourth_twice bytes =
     )
 
 -- with the fields of version 5 after them
-late_twice : (undo_states : ℕ) (bytes : List ℕ) → with_group (screen_fields_5 undo_states)
-    (with_group screen_fields_4 (with_values standard_fields
-    (with_group (screen_fields_5 undo_states) (with_group screen_fields_4 (with_values standard_fields bytes)))))
-    ≡ with_group (screen_fields_5 undo_states) (with_group screen_fields_4 (with_values standard_fields bytes))
-late_twice undo_states bytes =
+late_twice : (setup : Setup) (bytes : List ℕ) → with_group (screen_fields_5 setup)
+    (with_group (screen_fields_4 setup) (with_values standard_fields
+    (with_group (screen_fields_5 setup) (with_group (screen_fields_4 setup) (with_values standard_fields bytes)))))
+    ≡ with_group (screen_fields_5 setup) (with_group (screen_fields_4 setup) (with_values standard_fields bytes))
+late_twice setup bytes =
     let one = with_values standard_fields bytes in
-    let ps = screen_fields_4 one in
+    let ps = screen_fields_4 setup one in
     let two = with_values ps one in
-    let qs = screen_fields_5 undo_states two in
+    let qs = screen_fields_5 setup two in
     let three = with_values qs two in
-    let kept : ℕ = if undo_states == 0 then 0b00000111 else 0b00010111 in
+    let kept : ℕ = if setup.undo_states == 0 then 0b00000111 else 0b00010111 in
     let standard : with_values standard_fields three ≡ three = all_stay standard_fields three (
       put_all qs two 0x32 1 (put_all ps one 0x32 1 (put_in standard_fields bytes 0x32)),
       (put_all qs two 0x33 1 (put_all ps one 0x33 1 (put_in standard_fields bytes 0x33)), tt),
     ) in
-    let fourth : with_values (screen_fields_4 three) three ≡ three = all_stay (screen_fields_4 three) three (
+    let fourth : with_values (screen_fields_4 setup three) three
+    ≡ three = all_stay (screen_fields_4 setup three) three (
       put_all qs two 0x1e 6 (put_in ps one 0x1e),
       (
         put_all qs two 0x1f 65 (put_in ps one 0x1f),
         (
           put_all qs two 0x20 255 (put_in ps one 0x20),
           (
-            put_all qs two 0x21 80 (put_in ps one 0x21),
+            put_all qs two 0x21 setup.screen.columns (put_in ps one 0x21),
             (
-              set_stands three 0x01 (slice_index one 0x01) 0b01010000 0b00010000
-                  (put_all qs two 0x01 (bit_or (bit_and (slice_index one 0x01) 0b01010000) 0b00010000)
+              set_stands three 0x01 (slice_index one 0x01) 0b01010000 (style_flags setup)
+                  (put_all qs two 0x01 (bit_or (bit_and (slice_index one 0x01) 0b01010000) (style_flags setup))
                   (put_in ps one 0x01)),
               tt,
             ),
@@ -156,8 +158,8 @@ late_twice undo_states bytes =
         ),
       ),
     ) in
-    let fifth : with_values (screen_fields_5 undo_states three) three ≡ three = all_stay
-    (screen_fields_5 undo_states three) three (
+    let fifth : with_values (screen_fields_5 setup three) three ≡ three = all_stay
+    (screen_fields_5 setup three) three (
       put_in qs two 0x22,
       (
         put_in qs two 0x23,
@@ -185,27 +187,27 @@ late_twice undo_states bytes =
         ),
       ),
     ) in
-    ap (λ (xs : List ℕ). with_group (screen_fields_5 undo_states) (with_group screen_fields_4 xs)) standard
-    ∙ ap (with_group (screen_fields_5 undo_states)) fourth ∙ fifth
+    ap (λ (xs : List ℕ). with_group (screen_fields_5 setup) (with_group (screen_fields_4 setup) xs)) standard
+    ∙ ap (with_group (screen_fields_5 setup)) fourth ∙ fifth
 
-by_version : (b c : Bool) (undo_states : ℕ) (fields : List ℕ → List ℕ)
+by_version : (b c : Bool) (setup : Setup) (fields : List ℕ → List ℕ)
     → ((bytes : List ℕ) → fields bytes ≡ (if b then with_group screen_fields_3 (with_values standard_fields bytes)
-    else if c then with_group screen_fields_4 (with_values standard_fields bytes) else with_group
-    (screen_fields_5 undo_states) (with_group screen_fields_4 (with_values standard_fields bytes))))
+    else if c then with_group (screen_fields_4 setup) (with_values standard_fields bytes) else with_group
+    (screen_fields_5 setup) (with_group (screen_fields_4 setup) (with_values standard_fields bytes))))
     → (bytes : List ℕ) → fields (fields bytes) ≡ fields bytes
-by_version true c undo_states fields is bytes = ap fields (is bytes) ∙ is _ ∙ early_twice bytes ∙ sym (is bytes)
-by_version false true undo_states fields is bytes = ap fields (is bytes) ∙ is _ ∙ fourth_twice bytes ∙ sym (is bytes)
-by_version false false undo_states fields is bytes =
-    ap fields (is bytes) ∙ is _ ∙ late_twice undo_states bytes ∙ sym (is bytes)
+by_version true c setup fields is bytes = ap fields (is bytes) ∙ is _ ∙ early_twice bytes ∙ sym (is bytes)
+by_version false true setup fields is bytes = ap fields (is bytes) ∙ is _ ∙ fourth_twice setup bytes ∙ sym (is bytes)
+by_version false false setup fields is bytes =
+    ap fields (is bytes) ∙ is _ ∙ late_twice setup bytes ∙ sym (is bytes)
 
 pub set_again_stays : SetAgainStays
 unfolding with_fields
-set_again_stays version undo_states bytes =
-    by_version (nat_lt version 4) (nat_lt version 5) undo_states (with_fields version undo_states) (λ xs. refl) bytes
+set_again_stays version setup bytes =
+    by_version (nat_lt version 4) (nat_lt version 5) setup (with_fields version setup) (λ xs. refl) bytes
 
 pub fresh_again_stays : FreshAgainStays
 unfolding fresh
-fresh_again_stays file undo_states = set_again_stays _ undo_states file
+fresh_again_stays file setup = set_again_stays _ setup file
 
 length-values : (ps : List (ℕ × ℕ)) (bytes : List ℕ) → length (with_values ps bytes) ≡ length bytes
 length-values [] bytes = refl
@@ -221,39 +223,41 @@ flags_3 bytes inside =
     let one = with_values standard_fields bytes in
     inl (put_all (screen_fields_3 one) one 0x11 (slice_index bytes 0x11) (put_in standard_fields bytes 0x11) inside)
 
-flags_4 : (bytes : List ℕ) → KeepsFlags bytes (with_group screen_fields_4 (with_values standard_fields bytes))
-flags_4 bytes inside =
+flags_4 : (setup : Setup) (bytes : List ℕ)
+    → KeepsFlags bytes (with_group (screen_fields_4 setup) (with_values standard_fields bytes))
+flags_4 setup bytes inside =
     let one = with_values standard_fields bytes in
-    inl (put_all (screen_fields_4 one) one 0x11 (slice_index bytes 0x11) (put_in standard_fields bytes 0x11) inside)
+    inl (put_all (screen_fields_4 setup one) one 0x11 (slice_index bytes 0x11)
+    (put_in standard_fields bytes 0x11) inside)
 
 undo_bits : (b : Bool) → bit_and (if b then 0b00000111 else 0b00010111) 0b11 ≡ 0b11
 undo_bits true = refl
 undo_bits false = refl
 
-flags_5 : (undo_states : ℕ) (bytes : List ℕ) → KeepsFlags bytes
-    (with_group (screen_fields_5 undo_states) (with_group screen_fields_4 (with_values standard_fields bytes)))
-flags_5 undo_states bytes inside =
+flags_5 : (setup : Setup) (bytes : List ℕ) → KeepsFlags bytes
+    (with_group (screen_fields_5 setup) (with_group (screen_fields_4 setup) (with_values standard_fields bytes)))
+flags_5 setup bytes inside =
     let one = with_values standard_fields bytes in
-    let two = with_values (screen_fields_4 one) one in
-    let kept : ℕ = if undo_states == 0 then 0b00000111 else 0b00010111 in
-    let before : Stands two 0x11 (slice_index bytes 0x11) = put_all (screen_fields_4 one) one 0x11
+    let two = with_values (screen_fields_4 setup one) one in
+    let kept : ℕ = if setup.undo_states == 0 then 0b00000111 else 0b00010111 in
+    let before : Stands two 0x11 (slice_index bytes 0x11) = put_all (screen_fields_4 setup one) one 0x11
     (slice_index bytes 0x11) (put_in standard_fields bytes 0x11) in
-    let long : 0x11 < length two = omega (arith, inside, length-values (screen_fields_5 undo_states two) two) in
+    let long : 0x11 < length two = omega (arith, inside, length-values (screen_fields_5 setup two) two) in
     inr (
       kept,
-      undo_bits (undo_states == 0),
-      put_in (screen_fields_5 undo_states two) two 0x11 inside
+      undo_bits (setup.undo_states == 0),
+      put_in (screen_fields_5 setup two) two 0x11 inside
           ∙ ap (λ (v : ℕ). bit_and v kept) (before long),
     )
 
-flags_by : (b c : Bool) (undo_states : ℕ) (bytes : List ℕ)
+flags_by : (b c : Bool) (setup : Setup) (bytes : List ℕ)
     → KeepsFlags bytes (if b then with_group screen_fields_3 (with_values standard_fields bytes) else if c
-    then with_group screen_fields_4 (with_values standard_fields bytes) else with_group
-    (screen_fields_5 undo_states) (with_group screen_fields_4 (with_values standard_fields bytes)))
-flags_by true c undo_states bytes = flags_3 bytes
-flags_by false true undo_states bytes = flags_4 bytes
-flags_by false false undo_states bytes = flags_5 undo_states bytes
+    then with_group (screen_fields_4 setup) (with_values standard_fields bytes) else with_group
+    (screen_fields_5 setup) (with_group (screen_fields_4 setup) (with_values standard_fields bytes)))
+flags_by true c setup bytes = flags_3 bytes
+flags_by false true setup bytes = flags_4 setup bytes
+flags_by false false setup bytes = flags_5 setup bytes
 
-pub keeps_flags : (version undo_states : ℕ) (bytes : List ℕ) → KeepsFlags bytes (with_fields version undo_states bytes)
+pub keeps_flags : (version : ℕ) (setup : Setup) (bytes : List ℕ) → KeepsFlags bytes (with_fields version setup bytes)
 unfolding with_fields
-keeps_flags version undo_states bytes = flags_by (nat_lt version 4) (nat_lt version 5) undo_states bytes
+keeps_flags version setup bytes = flags_by (nat_lt version 4) (nat_lt version 5) setup bytes

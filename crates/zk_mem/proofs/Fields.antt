@@ -4,6 +4,7 @@ use Rattle.std.proofs.Common.{◌≡◌, ◌≤◌, ◌<◌, ◌∙◌, ℕ, Boo
 use Rattle.std.proofs.Common.{refl, lit<}
 use Rattle.std.proofs.lemmas.List.{drop-set-lt}
 use Rattle.std.proofs.Math.ListN.{length-set}
+use Rattle.zk_mem.specs.declared.memory.Setup.{Setup}
 use Rattle.zk_mem.specs.Fresh.{with_values, standard_fields, screen_fields_3, screen_fields_4, screen_fields_5}
 use Rattle.zk_mem.specs.Fresh.{with_group, with_fields}
 
@@ -40,32 +41,32 @@ like_standard n bytes h = like_values n standard_fields bytes h (lit< tt, (lit< 
 like_3 : (n : ℕ) (bytes : List ℕ) → 64 ≤ n → IsLike n (with_group screen_fields_3 bytes) bytes
 like_3 n bytes h = like_values n (screen_fields_3 bytes) bytes h (lit< tt, tt)
 
-like_4 : (n : ℕ) (bytes : List ℕ) → 64 ≤ n → IsLike n (with_group screen_fields_4 bytes) bytes
-like_4 n bytes h =
-    like_values n (screen_fields_4 bytes) bytes h (lit< tt, (lit< tt, (lit< tt, (lit< tt, (lit< tt, tt)))))
+like_4 : (n : ℕ) (setup : Setup) (bytes : List ℕ) → 64 ≤ n → IsLike n (with_group (screen_fields_4 setup) bytes) bytes
+like_4 n setup bytes h =
+    like_values n (screen_fields_4 setup bytes) bytes h (lit< tt, (lit< tt, (lit< tt, (lit< tt, (lit< tt, tt)))))
 
-like_5 : (n undo_states : ℕ) (bytes : List ℕ) → 64 ≤ n → IsLike n (with_group (screen_fields_5 undo_states) bytes) bytes
-like_5 n undo_states bytes h =
-    like_values n (screen_fields_5 undo_states bytes) bytes h
+like_5 : (n : ℕ) (setup : Setup) (bytes : List ℕ) → 64 ≤ n → IsLike n (with_group (screen_fields_5 setup) bytes) bytes
+like_5 n setup bytes h =
+    like_values n (screen_fields_5 setup bytes) bytes h
     (lit< tt, (lit< tt, (lit< tt, (lit< tt, (lit< tt, (lit< tt, (lit< tt, (lit< tt, (lit< tt, (lit< tt, tt))))))))))
 
-like_fields : (n version undo_states : ℕ) (bytes : List ℕ) → 64 ≤ n
-    → IsLike n (with_fields version undo_states bytes) bytes
+like_fields : (n version : ℕ) (setup : Setup) (bytes : List ℕ) → 64 ≤ n
+    → IsLike n (with_fields version setup bytes) bytes
 unfolding with_fields
-like_fields n version undo_states bytes h =
+like_fields n version setup bytes h =
     let standard = with_values standard_fields bytes in
     let first = like_standard n bytes h in
-    let four = like_both n _ standard bytes (like_4 n standard h) first in
+    let four = like_both n _ standard bytes (like_4 n setup standard h) first in
     like_if n (nat_lt version 4) _ _ bytes
     (like_both n _ standard bytes (like_3 n standard h) first)
     (like_if n (nat_lt version 5) _ _ bytes four
-    (like_both n _ (with_group screen_fields_4 standard) bytes
-    (like_5 n undo_states (with_group screen_fields_4 standard) h) four))
+    (like_both n _ (with_group (screen_fields_4 setup) standard) bytes
+    (like_5 n setup (with_group (screen_fields_4 setup) standard) h) four))
 
-pub length-with_fields : (version undo_states : ℕ) (bytes : List ℕ)
-    → length (with_fields version undo_states bytes) ≡ length bytes
-length-with_fields version undo_states bytes = (like_fields 64 version undo_states bytes (omega arith)).long
+pub length-with_fields : (version : ℕ) (setup : Setup) (bytes : List ℕ)
+    → length (with_fields version setup bytes) ≡ length bytes
+length-with_fields version setup bytes = (like_fields 64 version setup bytes (omega arith)).long
 
-pub drop-with_fields : (n version undo_states : ℕ) (bytes : List ℕ) → 64 ≤ n
-    → drop n (with_fields version undo_states bytes) ≡ drop n bytes
-drop-with_fields n version undo_states bytes h = (like_fields n version undo_states bytes h).rest
+pub drop-with_fields : (n version : ℕ) (setup : Setup) (bytes : List ℕ) → 64 ≤ n
+    → drop n (with_fields version setup bytes) ≡ drop n bytes
+drop-with_fields n version setup bytes h = (like_fields n version setup bytes h).rest

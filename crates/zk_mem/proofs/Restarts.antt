@@ -5,6 +5,7 @@ use Rattle.std.specs.Int.{bit_at}
 use Rattle.std.proofs.lemmas.Bool.{cases_lt}
 use Rattle.std.proofs.lemmas.List.{get_or-set_same, set_past, set-get_or}
 use Rattle.std.proofs.lemmas.Nat.Bits.{bit_at_and, bit_at_or, same_from_bits, bit_at-zero}
+use Rattle.zk_mem.specs.declared.memory.Setup.{Setup}
 use Rattle.zk_mem.specs.Fresh.{with_fields}
 use Rattle.zk_mem.specs.Again.{with_flags, with_bytes, settled, again, restarted}
 use Rattle.zk_mem.specs.Laws.{PutsBack, RestartsOnce, SettlesOnce}
@@ -46,13 +47,13 @@ kept_again a f c t k e w =
     same_from_bits _ _ (λ i. simp (bit_at_or, bit_at_and)
     (omega (arith, apart_bits c t i e, within_bits k t i w, bit_none i)))
 
-module _ (version undo_states flags : ℕ) (bytes : List ℕ) where
+module _ (version : ℕ) (setup : Setup) (flags : ℕ) (bytes : List ℕ) where
   -- the bytes with flags and fields
   abbrev done : List ℕ
-  done = with_fields version undo_states (with_flags flags bytes)
+  done = with_fields version setup (with_flags flags bytes)
 
   length_done : length done ≡ length bytes
-  length_done = length-with_fields version undo_states (with_flags flags bytes) ∙ length-with_flags flags bytes
+  length_done = length-with_fields version setup (with_flags flags bytes) ∙ length-with_flags flags bytes
 
   flags_put : 0x11 < length bytes → get_or (with_flags flags bytes) 0x11 0 ≡ mixed (slice_index bytes 0x11) flags
       0b11111100 0b11
@@ -66,7 +67,7 @@ module _ (version undo_states flags : ℕ) (bytes : List ℕ) where
       (λ same. ap (λ (n : ℕ). bit_and n 0b11) (same ∙ put) ∙ low_mixed a flags 0b11111100 0b11 refl)
       (λ kept. ap (λ (n : ℕ). bit_and n 0b11) (kept.2 ∙ ap (λ (n : ℕ). bit_and n kept.0) put)
       ∙ kept_mixed a flags 0b11111100 0b11 kept.0 refl kept.1)
-      (keeps_flags version undo_states (with_flags flags bytes) (omega (arith, length_done)))
+      (keeps_flags version setup (with_flags flags bytes) (omega (arith, length_done)))
 
   again_done : 0x11 < length bytes → mixed (get_or done 0x11 0) flags 0b11111100 0b11 ≡ get_or done 0x11 0
   again_done inside =
@@ -79,7 +80,7 @@ module _ (version undo_states flags : ℕ) (bytes : List ℕ) where
       (λ kept.
       let is = kept.2 ∙ ap (λ (n : ℕ). bit_and n kept.0) put in
       ap (λ (n : ℕ). mixed n flags 0b11111100 0b11) is ∙ kept_again a flags 0b11111100 0b11 kept.0 refl kept.1 ∙ sym is)
-      (keeps_flags version undo_states (with_flags flags bytes) (omega (arith, length_done)))
+      (keeps_flags version setup (with_flags flags bytes) (omega (arith, length_done)))
 
   flags_again : with_flags flags done ≡ done
   flags_again =
@@ -91,9 +92,9 @@ module _ (version undo_states flags : ℕ) (bytes : List ℕ) where
 pub settles_once : SettlesOnce
 unfolding settled
 settles_once flags m =
-    let done = with_fields m.version m.undo_states (with_flags flags m.bytes) in
-    ap (with_bytes m) (ap (with_fields m.version m.undo_states)
-    (flags_again m.version m.undo_states flags m.bytes) ∙ set_again_stays m.version m.undo_states
+    let done = with_fields m.version m.setup (with_flags flags m.bytes) in
+    ap (with_bytes m) (ap (with_fields m.version m.setup)
+    (flags_again m.version m.setup flags m.bytes) ∙ set_again_stays m.version m.setup
     (with_flags flags m.bytes))
 
 pub puts_back : PutsBack
@@ -104,11 +105,11 @@ puts_back old bytes =
       version = refl;
       static_base = refl;
       file = refl;
-      undo_states = refl;
-      size = length_done old.version old.undo_states flags bytes;
-      others = λ a behind. drop-with_fields a old.version old.undo_states (with_flags flags bytes) behind
+      setup = refl;
+      size = length_done old.version old.setup flags bytes;
+      others = λ a behind. drop-with_fields a old.version old.setup (with_flags flags bytes) behind
           ∙ drop-with_flags a flags bytes behind;
-      flags = λ long. flags_done old.version old.undo_states flags bytes (omega (arith, long));
+      flags = λ long. flags_done old.version old.setup flags bytes (omega (arith, long));
     }
 
 -- only two bits are looked at
@@ -125,6 +126,6 @@ pub restarts_once : RestartsOnce
 unfolding restarted again settled
 restarts_once m =
     let flags = slice_index m.bytes 0x11 in
-    let done = with_fields m.version m.undo_states (with_flags flags m.file) in
-    ap (λ (l : List ℕ). with_bytes m (with_fields m.version m.undo_states l))
-    (same_flags (slice_index done 0x11) flags m.file (flags_done m.version m.undo_states flags m.file))
+    let done = with_fields m.version m.setup (with_flags flags m.file) in
+    ap (λ (l : List ℕ). with_bytes m (with_fields m.version m.setup l))
+    (same_flags (slice_index done 0x11) flags m.file (flags_done m.version m.setup flags m.file))

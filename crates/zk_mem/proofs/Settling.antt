@@ -3,6 +3,7 @@ use Rattle.std.proofs.Common.{◌≡◌, ◌≤◌, ◌∙◌, ℕ, List, length
 use Rattle.std.proofs.lemmas.List.{drop-set-lt}
 use Rattle.std.proofs.Math.ListN.{length-set}
 use Rattle.zk_mem.specs.declared.header.Header.{Header}
+use Rattle.zk_mem.specs.declared.memory.Setup.{Setup}
 use Rattle.zk_mem.specs.Fresh.{with_fields}
 use Rattle.zk_mem.specs.Again.{with_flags}
 use Rattle.zk_mem.specs.Map.{IsWhole}
@@ -14,11 +15,11 @@ length-with_flags flags bytes = length-set bytes 0x11 _
 pub drop-with_flags : (n flags : ℕ) (bytes : List ℕ) → 64 ≤ n → drop n (with_flags flags bytes) ≡ drop n bytes
 drop-with_flags n flags bytes h = drop-set-lt n bytes 0x11 _ (omega arith)
 
-pub whole_settled : (header : Header) (readable : ℕ) (bytes file new : List ℕ) (version undo_states flags : ℕ)
+pub whole_settled : (header : Header) (readable : ℕ) (bytes file new : List ℕ) (version : ℕ) (setup : Setup) (flags : ℕ)
     → IsWhole header readable bytes file
-    → new ≡ with_fields version undo_states (with_flags flags bytes) → IsWhole header readable new file
-whole_settled header readable bytes file new version undo_states flags w e =
-    let long : length new ≡ length bytes = ap length e ∙ length-with_fields version undo_states
+    → new ≡ with_fields version setup (with_flags flags bytes) → IsWhole header readable new file
+whole_settled header readable bytes file new version setup flags w e =
+    let long : length new ≡ length bytes = ap length e ∙ length-with_fields version setup
     (with_flags flags bytes) ∙ length-with_flags flags bytes in
     let base = header.static_base in
     record {
@@ -29,6 +30,6 @@ whole_settled header readable bytes file new version undo_states flags w e =
       longest = omega (arith, w.longest);
       static_low = w.static_low;
       static_high = w.static_high;
-      static_is = ap (drop base) e ∙ drop-with_fields base version undo_states (with_flags flags bytes)
+      static_is = ap (drop base) e ∙ drop-with_fields base version setup (with_flags flags bytes)
           w.static_low ∙ drop-with_flags base flags bytes w.static_low ∙ w.static_is;
     }

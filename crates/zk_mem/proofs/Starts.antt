@@ -3,6 +3,7 @@ use Rattle.std.proofs.Common.{◌≡◌, ◌≤◌, ◌<◌, ◌∙◌, ℕ, Lis
 use Rattle.zk_mem.specs.declared.header.Header.{Header}
 use Rattle.zk_mem.specs.Header.{header_of, word_in}
 use Rattle.zk_mem.specs.Story.{IsBounded}
+use Rattle.zk_mem.specs.declared.memory.Setup.{Setup}
 use Rattle.zk_mem.specs.Fresh.{with_fields}
 use Rattle.zk_mem.specs.Map.{IsWhole}
 use Rattle.zk_mem.proofs.Fields.{length-with_fields, drop-with_fields}
@@ -11,13 +12,13 @@ base_is : (file : List ℕ) (header : Header) → header ≡ header_of file → 
 unfolding header_of
 base_is file header e = ap (λ (h : Header). h.static_base) e
 
-pub whole_start : (file bytes : List ℕ) (header : Header) (version undo_states readable : ℕ) → IsBounded file
+pub whole_start : (file bytes : List ℕ) (header : Header) (version : ℕ) (setup : Setup) (readable : ℕ) → IsBounded file
     → header ≡ header_of file → header.static_base < 65536
-    → bytes ≡ with_fields version undo_states file → readable ≡ min (length bytes) 65536
+    → bytes ≡ with_fields version setup file → readable ≡ min (length bytes) 65536
     → IsWhole header readable bytes file
-whole_start file bytes header version undo_states readable bounded h word b r =
+whole_start file bytes header version setup readable bounded h word b r =
     let base = base_is file header h in
-    let long : length bytes ≡ length file = ap length b ∙ length-with_fields version undo_states file in
+    let long : length bytes ≡ length file = ap length b ∙ length-with_fields version setup file in
     let low : 64 ≤ header.static_base = omega (arith, bounded.static_low) in
     record {
       header_is = h;
@@ -27,5 +28,5 @@ whole_start file bytes header version undo_states readable bounded h word b r =
       longest = omega (arith, bounded.longest);
       static_low = low;
       static_high = omega (arith, bounded.static_high);
-      static_is = ap (drop header.static_base) b ∙ drop-with_fields header.static_base version undo_states file low;
+      static_is = ap (drop header.static_base) b ∙ drop-with_fields header.static_base version setup file low;
     }

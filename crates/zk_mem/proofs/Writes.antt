@@ -50,7 +50,7 @@ byte_there m a v inside dynamic =
         version = refl;
         static_base = refl;
         file = refl;
-        undo_states = refl;
+        setup = refl;
         size = length-set m.bytes a v;
         others = λ c out. other_item m.bytes a c v (beside a c out);
       };
@@ -85,7 +85,7 @@ word_there m a v inside dynamic =
         version = refl;
         static_base = refl;
         file = refl;
-        undo_states = refl;
+        setup = refl;
         size = size;
         others = λ c out. other_item first (a + 1) c (v % 256) (beside_second a c out)
             ∙ other_item m.bytes a c (v / 256) (beside_first a c out);

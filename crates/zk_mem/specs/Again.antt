@@ -15,7 +15,7 @@ with_bytes m bytes = record m { bytes = bytes }
 
 -- the memory with these two bits, and then with the header's fields that an interpreter sets (section 11.1)
 unfoldable pub settled : ℕ → MemoryMap → MemoryMap
-settled flags m = with_bytes m (with_fields m.version m.undo_states (with_flags flags m.bytes))
+settled flags m = with_bytes m (with_fields m.version m.setup (with_flags flags m.bytes))
 
 -- the memory with bytes that are put back: the two bits stay, and the header's fields are set again (section 6.1)
 unfoldable pub again : MemoryMap → List ℕ → MemoryMap

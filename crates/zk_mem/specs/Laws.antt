@@ -1,5 +1,6 @@
 -- What writes to memory, and setting the header's fields again, leave as it was.
 use Rattle.std.specs.Prelude.{◌≡◌, ℕ, ◌+◌, ◌*◌, ◌<◌, ◌≤◌, ◌⊎◌, List, length, drop, slice_index, bit_and, Some, Ok}
+use Rattle.zk_mem.specs.declared.memory.Setup.{Setup}
 use Rattle.zk_mem.specs.Map.{MemoryMap, byte_at, word_at, byte_put, word_put, cell_at}
 use Rattle.zk_mem.specs.Fresh.{with_fields, fresh}
 use Rattle.zk_mem.specs.Again.{settled, again, restarted}
@@ -10,7 +11,7 @@ pub record IsSameBut (m n : MemoryMap) (a b : ℕ) : Type 0 where
   pub version : n.version ≡ m.version
   pub static_base : n.static_base ≡ m.static_base
   pub file : n.file ≡ m.file
-  pub undo_states : n.undo_states ≡ m.undo_states
+  pub setup : n.setup ≡ m.setup
   pub size : length n.bytes ≡ length m.bytes
   pub others : (c : ℕ) → (c < a) ⊎ (b ≤ c) → cell_at n c ≡ cell_at m c
 
@@ -36,14 +37,13 @@ WordIsWritten = (m n : MemoryMap) (a v : ℕ) → word_put m a v ≡ Ok n → Wr
 
 -- the header's fields, set again where they were set, stay (section 11.1)
 abbrev pub SetAgainStays : Type 0
-SetAgainStays = (version undo_states : ℕ) (bytes : List ℕ) →
-    with_fields version undo_states (with_fields version undo_states bytes) ≡ with_fields version undo_states bytes
+SetAgainStays = (version : ℕ) (setup : Setup) (bytes : List ℕ) →
+    with_fields version setup (with_fields version setup bytes) ≡ with_fields version setup bytes
 
 -- the memory at the start, made fresh again, is the same
 abbrev pub FreshAgainStays : Type 0
-FreshAgainStays = (file : List ℕ) (undo_states : ℕ) →
-    with_fields (fresh file undo_states).version undo_states (fresh file undo_states).bytes
-    ≡ (fresh file undo_states).bytes
+FreshAgainStays = (file : List ℕ) (setup : Setup) →
+    with_fields (fresh file setup).version setup (fresh file setup).bytes ≡ (fresh file setup).bytes
 
 -- a text lies whole inside the story, two bytes to a word (section 3.2)
 abbrev pub TextLiesInside : Type 0
@@ -56,7 +56,7 @@ pub record IsAgain (old new : MemoryMap) (bytes : List ℕ) : Type 0 where
   pub version : new.version ≡ old.version
   pub static_base : new.static_base ≡ old.static_base
   pub file : new.file ≡ old.file
-  pub undo_states : new.undo_states ≡ old.undo_states
+  pub setup : new.setup ≡ old.setup
   pub size : length new.bytes ≡ length bytes
   pub others : (a : ℕ) → 64 ≤ a → drop a new.bytes ≡ drop a bytes
   pub flags : 64 ≤ length bytes → bit_and (slice_index new.bytes 0x11) 0b11 ≡ bit_and (slice_index old.bytes 0x11) 0b11

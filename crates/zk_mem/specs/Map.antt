@@ -4,16 +4,17 @@ use Rattle.std.specs.Prelude.{slice_set, Option, Some, None, Result, Ok, Err, na
 use Rattle.zk_mem.specs.declared.fault.Fault.{Fault}
 use Rattle.zk_mem.specs.declared.fault.Fault.TheVariants.{BadAddress, ReadOnly}
 use Rattle.zk_mem.specs.declared.header.Header.{Header}
+use Rattle.zk_mem.specs.declared.memory.Setup.{Setup}
 use Rattle.zk_mem.specs.Header.{header_of, word_in}
 
 -- the version, the address where dynamic memory ends, the bytes as they stand, those of the story
--- file, and how many undo states its interpreter keeps
+-- file, and what its interpreter tells of itself
 pub record MemoryMap : Type 0 where
   pub version : ℕ
   pub static_base : ℕ
   pub bytes : List ℕ
   pub file : List ℕ
-  pub undo_states : ℕ
+  pub setup : Setup
 
 -- data is read below this address
 abbrev pub readable_end : MemoryMap → ℕ

@@ -8,7 +8,7 @@ ghost use Rattle.zk_mem.specs.guards.Examples.{RefusalsHaveNumbers, FaultsHaveNu
 ghost use Rattle.zk_mem.specs.guards.Examples.{FieldsOfVersion3SetABit, FieldsOfVersion4, FieldsOfVersion5};
 ghost use Rattle.zk_mem.specs.guards.Examples.{FieldsOfVersion8, MemoryStartsSo, SumsGoToTheStatedLength};
 ghost use Rattle.zk_mem.specs.guards.Examples.{SumsAreModulo65536, SumsAreCompared, RestartsSo, BytesArePutBack};
-ghost use Rattle.zk_mem.specs.guards.Examples.{SettlesSo, SettlesLaterVersions};
+ghost use Rattle.zk_mem.specs.guards.Examples.{SettlesSo, SettlesLaterVersions, FieldsOfAWideScreen, WideScreensStay};
 
 /// The header, and packed addresses (Standard, sections 1.2.3 and 11.1).
 #[tactic(auto, unfolding(crate::specs::Header::header_of, crate::specs::Header::unit_length))]
@@ -60,6 +60,7 @@ pub fn fresh_by_example()
     ensures fields_of_version4 { FieldsOfVersion4 }
     ensures fields_of_version5 { FieldsOfVersion5 }
     ensures fields_of_version8 { FieldsOfVersion8 }
+    ensures fields_of_a_wide_screen { FieldsOfAWideScreen }
     ensures memory_starts_so { MemoryStartsSo }
 {}
 
@@ -75,6 +76,7 @@ pub fn sums_by_example()
 #[tactic(auto, unfolding(crate::proofs::guards::Opened::examples))]
 pub fn restarts_by_example()
     ensures restarts_so { RestartsSo }
+    ensures wide_screens_stay { WideScreensStay }
     ensures bytes_are_put_back { BytesArePutBack }
     ensures settles_so { SettlesSo }
     ensures settles_later_versions { SettlesLaterVersions }

@@ -10,7 +10,7 @@ ghost use Rattle.zk_mem.specs.Words.{text_end_at};
 ghost use Rattle.zk_mem.specs.Again.{with_flags, with_bytes, settled, restarted};
 ghost use Rattle.zk_mem.specs.Checksum.{file_sum, has_right_sum};
 ghost use Rattle.zk_mem.specs.Fresh.{with_fields, with_values, standard_fields, screen_fields_3, screen_fields_4};
-ghost use Rattle.zk_mem.specs.Fresh.{screen_fields_5, fresh};
+ghost use Rattle.zk_mem.specs.Fresh.{screen_fields_5, fresh, plain_screen};
 
 use crate::checksum::{is_right, sum_of};
 use crate::fault::Fault;
@@ -19,11 +19,34 @@ use crate::story::Story;
 use std::alloc::{AllocError, Global};
 use std::marker::Model;
 
+/// What a screen has, as a story is told of it from version 4 on (Z-Machine Standards Document 1.1, section 8.4).
+#[derive(Clone, Copy, PartialEq, Eq, Drop)]
+pub struct ScreenSetup {
+    /// How many characters a line has: from 20 on.
+    pub columns: u8,
+    /// Whether bold and italic text is told to be there, beside text of one width (section 11.1, Flags 1).
+    pub styles: bool,
+}
+
+impl ScreenSetup {
+    /// A screen of 80 columns, with text of one width alone.
+    pub fn plain() -> ScreenSetup
+        ensures { result ≡ plain_screen }
+    {
+        ScreenSetup {
+            columns: 80,
+            styles: false,
+        }
+    }
+}
+
 /// What an interpreter tells a story of itself.
 #[derive(Clone, Copy, Drop)]
 pub struct Setup {
     /// How many undo states are kept. Where it is 0, the header says that there is no undo.
     pub undo_states: u8,
+    /// What the screen has.
+    pub screen: ScreenSetup,
 }
 
 /// The memory of a story that runs (Z-Machine Standards Document 1.1, section 1). Addresses are byte
@@ -34,7 +57,7 @@ pub struct Memory {
     header: Header,
     // where data ends
     readable: u32,
-    undo_states: u8,
+    setup: Setup,
     bytes: Vec<u8>,
     file: Vec<u8>,
 }
@@ -49,7 +72,7 @@ impl Model for Memory {
       static_base = m.header.static_base;
       bytes = m.bytes.items;
       file = m.file.items;
-      undo_states = m.undo_states;
+      setup = m.setup;
     } };
 
     ghost invariant = { λ m. IsWhole m.header m.readable m.bytes.items m.file.items };
@@ -70,31 +93,36 @@ fn set_screen_3(bytes: &mut Vec<u8>)
     bytes[0x01] = bytes[0x01] & 0b1010_1111 | 0b0010_0000;
 }
 
-fn set_screen_4(bytes: &mut Vec<u8>)
+fn set_screen_4(bytes: &mut Vec<u8>, setup: Setup)
     requires { 64 ≤ length bytes.old.items }
-    ensures { bytes.new.items ≡ with_values (screen_fields_4 bytes.old.items) bytes.old.items }
+    ensures { bytes.new.items ≡ with_values (screen_fields_4 setup bytes.old.items) bytes.old.items }
 {
     let flags_1 = bytes[0x01];
+    let styles = if setup.screen.styles {
+        0b0001_1100
+    } else {
+        0b0001_0000
+    };
     bytes[0x1e] = 6;
     bytes[0x1f] = 65;
     bytes[0x20] = 255;
-    bytes[0x21] = 80;
-    bytes[0x01] = flags_1 & 0b0101_0000 | 0b0001_0000;
+    bytes[0x21] = setup.screen.columns;
+    bytes[0x01] = flags_1 & 0b0101_0000 | styles;
 }
 
-fn set_screen_5(bytes: &mut Vec<u8>, undo_states: u8)
+fn set_screen_5(bytes: &mut Vec<u8>, setup: Setup)
     requires { 64 ≤ length bytes.old.items }
     ensures { bytes.new.items
-        ≡ with_values (screen_fields_5 undo_states bytes.old.items) bytes.old.items }
+        ≡ with_values (screen_fields_5 setup bytes.old.items) bytes.old.items }
 {
     let (high, low) = (bytes[0x10], bytes[0x11]);
-    let kept = if undo_states == 0 {
+    let kept = if setup.undo_states == 0 {
         0b0000_0111
     } else {
         0b0001_0111
     };
     bytes[0x22] = 0;
-    bytes[0x23] = 80;
+    bytes[0x23] = setup.screen.columns;
     bytes[0x24] = 0;
     bytes[0x25] = 255;
     bytes[0x26] = 1;
@@ -107,18 +135,18 @@ fn set_screen_5(bytes: &mut Vec<u8>, undo_states: u8)
 
 /// Sets the header's fields that an interpreter sets.
 #[tactic(auto, unfolding(crate::specs::Fresh::with_fields))]
-fn set_fields(bytes: &mut Vec<u8>, version: u8, undo_states: u8)
+fn set_fields(bytes: &mut Vec<u8>, version: u8, setup: Setup)
     requires { 64 ≤ length bytes.old.items }
-    ensures { bytes.new.items ≡ with_fields version undo_states bytes.old.items }
+    ensures { bytes.new.items ≡ with_fields version setup bytes.old.items }
 {
     set_standard(bytes);
     if version < 4 {
         set_screen_3(bytes);
         return;
     }
-    set_screen_4(bytes);
+    set_screen_4(bytes, setup);
     if version >= 5 {
-        set_screen_5(bytes, undo_states);
+        set_screen_5(bytes, setup);
     }
 }
 
@@ -160,17 +188,17 @@ impl Memory {
     /// (Standard, section 11.1). Where there is no memory for it, the story is given up.
     #[tactic(auto, unfolding(crate::specs::Fresh::fresh), using(crate::proofs::Bounds::none_bounds))]
     pub fn start(alloc: Global, story: Story, setup: Setup) -> Result<Memory, AllocError>
-        ensures { IfOk result (λ m. m ≡ fresh story setup.undo_states) }
+        ensures { IfOk result (λ m. m ≡ fresh story setup) }
     {
         let file = story.bytes;
         let header = header_at_front(file.as_slice());
         let mut bytes = Vec::from_slice(alloc, file.as_slice())?;
-        set_fields(&mut bytes, header.version, setup.undo_states);
+        set_fields(&mut bytes, header.version, setup);
         let readable = bytes.len().min(65_536) as u32;
         Ok(Memory {
             header,
             readable,
-            undo_states: setup.undo_states,
+            setup,
             bytes,
             file,
         })
@@ -287,7 +315,7 @@ impl Memory {
     {
         let version = self.version();
         set_flags(&mut self.bytes, flags);
-        set_fields(&mut self.bytes, version, self.undo_states);
+        set_fields(&mut self.bytes, version, self.setup);
     }
 
     /// Puts the file's bytes back into dynamic memory, but for bits 0 and 1 of Flags 2, and sets the

@@ -58,9 +58,9 @@ unfolding settled
 settled_base m n flags e = ap (λ (x : MemoryMap). x.static_base) e
 
 pub settled_story : (m n : MemoryMap) (flags : ℕ) → n ≡ settled flags m → (n.file ≡ m.file)
-    × (n.undo_states ≡ m.undo_states)
+    × (n.setup ≡ m.setup)
 unfolding settled
-settled_story m n flags e = (ap (λ (x : MemoryMap). x.file) e, ap (λ (x : MemoryMap). x.undo_states) e)
+settled_story m n flags e = (ap (λ (x : MemoryMap). x.file) e, ap (λ (x : MemoryMap). x.setup) e)
 
 -- memory that was reset, turned and settled is put back
 pub turned_again : (m reset turned n : MemoryMap) (flags : ℕ) (ds : List ℕ) → length ds ≤ length m.file
@@ -106,7 +106,7 @@ same_of m n f g u base bounds are =
 
 -- memory that is put back is the same story's
 pub again_same : (m n : MemoryMap) (bytes : List ℕ) → n ≡ again m bytes → (n.static_base ≡ m.static_base)
-    × (n.file ≡ m.file) × (n.undo_states ≡ m.undo_states)
+    × (n.file ≡ m.file) × (n.setup ≡ m.setup)
 unfolding again settled
 again_same m n bytes e =
-    (ap (λ (x : MemoryMap). x.static_base) e, ap (λ (x : MemoryMap). x.file) e, ap (λ (x : MemoryMap). x.undo_states) e)
+    (ap (λ (x : MemoryMap). x.static_base) e, ap (λ (x : MemoryMap). x.file) e, ap (λ (x : MemoryMap). x.setup) e)

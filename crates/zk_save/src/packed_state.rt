@@ -77,7 +77,7 @@ impl PackedState {
         ensures base { memory.new.static_base ≡ memory.old.static_base }
         ensures bounds { bounds_of frames.new ≡ bounds_of frames.old }
         ensures story { (memory.new.file ≡ memory.old.file)
-            × (memory.new.undo_states ≡ memory.old.undo_states) }
+            × (memory.new.setup ≡ memory.old.setup) }
     {
         let _ = memory.dynamic();
         let flags = memory.flags();

@@ -129,7 +129,7 @@ pub fn turn(packed: &[u8], memory: &mut Memory)
         → memory.new ≡ with_bytes memory.old (xored memory.old.bytes ds) }
     ensures base { memory.new.static_base ≡ memory.old.static_base }
     ensures story { (memory.new.file ≡ memory.old.file)
-        × (memory.new.undo_states ≡ memory.old.undo_states) }
+        × (memory.new.setup ≡ memory.old.setup) }
 {
     let end = memory.dynamic().len();
     let mut at: usize = 0;

@@ -118,7 +118,7 @@ pub fn restore(file: &[u8], memory: &mut Memory, frames: &mut Frames) -> Result<
     ensures pc { IfOk result (λ pc. pc < 2 ^ 24) }
     ensures base { memory.new.static_base ≡ memory.old.static_base }
     ensures story { (memory.new.file ≡ memory.old.file)
-        × (memory.new.undo_states ≡ memory.old.undo_states) }
+        × (memory.new.setup ≡ memory.old.setup) }
     ensures bounds { bounds_of frames.new ≡ bounds_of frames.old }
 {
     let parts = checked(file, memory, frames)?;

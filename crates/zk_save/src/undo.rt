@@ -149,7 +149,7 @@ impl Undo {
         ensures most { self.new.most ≡ self.old.most }
         ensures are_of { AreOf memory.new frames.new self.new }
         ensures story { (memory.new.file ≡ memory.old.file)
-            × (memory.new.undo_states ≡ memory.old.undo_states) }
+            × (memory.new.setup ≡ memory.old.setup) }
     {
         match self.pop() {
             Some(kept) => Some(kept.put_back(memory, frames)),

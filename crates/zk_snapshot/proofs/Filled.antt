@@ -1,5 +1,6 @@
 -- What filling memory and frames leaves alone.
 use Rattle.std.proofs.Common.{◌≡◌, ℕ, Bool, true, false, List, Ok, Err, refl, ap, sym, nat_lt}
+use Rattle.zk_mem.specs.declared.memory.Setup.{Setup}
 use Rattle.zk_mem.specs.Fresh.{fresh}
 use Rattle.zk_mem.specs.Map.{MemoryMap, byte_put, readable_end, with_byte}
 use Rattle.zk_mem.specs.declared.fault.Fault.TheVariants.{BadAddress, ReadOnly}
@@ -29,15 +30,15 @@ fresh_undo file undo = refl
 
 pub same_file : (m n : MemoryMap) → fixed_parts n ≡ fixed_parts m → n.file ≡ m.file
 unfolding fixed_parts
-same_file m n e = ap (λ (p : (ℕ × ℕ) × (List ℕ × ℕ)). p.1.0) e
+same_file m n e = ap (λ (p : (ℕ × ℕ) × (List ℕ × Setup)). p.1.0) e
 
 pub same_undo : (m n : MemoryMap) → fixed_parts n ≡ fixed_parts m → n.undo_states ≡ m.undo_states
 unfolding fixed_parts
-same_undo m n e = ap (λ (p : (ℕ × ℕ) × (List ℕ × ℕ)). p.1.1) e
+same_undo m n e = ap (λ (p : (ℕ × ℕ) × (List ℕ × Setup)). p.1.1) e
 
 pub same_base : (m n : MemoryMap) → fixed_parts n ≡ fixed_parts m → n.static_base ≡ m.static_base
 unfolding fixed_parts
-same_base m n e = ap (λ (p : (ℕ × ℕ) × (List ℕ × ℕ)). p.0.1) e
+same_base m n e = ap (λ (p : (ℕ × ℕ) × (List ℕ × Setup)). p.0.1) e
 
 pub first_bounds : (f : FrameList) → bounds_of (first_frames f.most_frames f.most_words) ≡ bounds_of f
 unfolding bounds_of

@@ -306,7 +306,7 @@ fn next_state(
 ) -> Result<(), AllocError>
     requires { AreOf memory.old frames.old undo.old }
     ensures story { (memory.new.file ≡ memory.old.file)
-        × (memory.new.undo_states ≡ memory.old.undo_states) }
+        × (memory.new.setup ≡ memory.old.setup) }
     ensures bounds { bounds_of frames.new ≡ bounds_of frames.old }
     ensures most { undo.new.most ≡ undo.old.most }
     ensures are_of { AreOf memory.new frames.new undo.new }
@@ -328,7 +328,7 @@ pub(crate) fn fill_states(
 ) -> Result<(), AllocError>
     requires { AreOf memory.old frames.old undo.old }
     ensures story { (memory.new.file ≡ memory.old.file)
-        × (memory.new.undo_states ≡ memory.old.undo_states) }
+        × (memory.new.setup ≡ memory.old.setup) }
     ensures bounds { bounds_of frames.new ≡ bounds_of frames.old }
     ensures most { undo.new.most ≡ undo.old.most }
     ensures are_of { AreOf memory.new frames.new undo.new }

@@ -42,7 +42,7 @@ same_self m n a e = subst (λ (k : MemoryMap). IsSameBeside m k a 0) e (record {
   version = refl;
   static_base = refl;
   file = refl;
-  undo_states = refl;
+  setup = refl;
   length_is = refl;
   others = λ c out. refl;
 })
@@ -67,7 +67,7 @@ beside_on m k n a b size first rest =
       version = rest.version ∙ alone.version;
       static_base = rest.static_base ∙ alone.static_base;
       file = rest.file ∙ alone.file;
-      undo_states = rest.undo_states ∙ alone.undo_states;
+      setup = rest.setup ∙ alone.setup;
       length_is = rest.length_is ∙ alone.size;
       others = λ c out.
           let later : (j : ℕ) → j < size → c ≢ (a + 1 + j) % 65536 = λ j below.

@@ -19,7 +19,7 @@ same_here m a b = record {
   version = refl;
   static_base = refl;
   file = refl;
-  undo_states = refl;
+  setup = refl;
   size = refl;
   others = λ c out. refl;
 }
@@ -30,7 +30,7 @@ same_on m n o a b first then = record {
   version = then.version ∙ first.version;
   static_base = then.static_base ∙ first.static_base;
   file = then.file ∙ first.file;
-  undo_states = then.undo_states ∙ first.undo_states;
+  setup = then.setup ∙ first.setup;
   size = then.size ∙ first.size;
   others = λ c out. then.others c out ∙ first.others c out;
 }
@@ -45,7 +45,7 @@ same_within m n a b low high same from to = record {
   version = same.version;
   static_base = same.static_base;
   file = same.file;
-  undo_states = same.undo_states;
+  setup = same.setup;
   size = same.size;
   others = λ c out. same.others c (wider a b low high c from to out);
 }

@@ -10,7 +10,7 @@ pub record IsSameBeside (m n : MemoryMap) (table size : ℕ) : Type 0 where
   pub version : n.version ≡ m.version
   pub static_base : n.static_base ≡ m.static_base
   pub file : n.file ≡ m.file
-  pub undo_states : n.undo_states ≡ m.undo_states
+  pub setup : n.setup ≡ m.setup
   pub length_is : length n.bytes ≡ length m.bytes
   pub others : (c : ℕ) → ((k : ℕ) → k < size → c ≢ (table + k) % 65536) → cell_at n c ≡ cell_at m c
 

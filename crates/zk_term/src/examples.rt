@@ -10,7 +10,7 @@ ghost use Rattle.zk_term.specs.guards.Examples.{TheTallestIsKept, GridsThatAreFo
 ghost use Rattle.zk_term.specs.guards.Examples.{CharactersAreColumns, KindsAfterAFlush, LinesBeginAnew, LinesGoOn};
 ghost use Rattle.zk_term.specs.guards.Examples.{LinesGoOnBehindASpace, LongWordsStandAlone, RowsAreNotWrapped};
 ghost use Rattle.zk_term.specs.guards.Examples.{SignalsHaveTexts, SpacesInARow, StylesAddUp, WordsFillALine};
-ghost use Rattle.zk_term.specs.guards.Examples.{WordsOfManyBytes};
+ghost use Rattle.zk_term.specs.guards.Examples.{WordsOfManyBytes, CellsHaveStyles, ScreensHaveAWidth};
 
 /// The characters of bytes in UTF-8, and bytes that are none.
 pub fn characters_by_example()
@@ -49,6 +49,13 @@ pub fn prints_by_example()
     ensures the_last_column { TheLastColumn }
     ensures below_the_height { BelowTheHeight }
     ensures texts_of_rows { TextsOfRows }
+{}
+
+/// Cells with styles, and screens of other widths (Standard, sections 8.4 and 8.7.1).
+#[tactic(auto, unfolding(crate::proofs::guards::Opened::examples))]
+pub fn cells_by_example()
+    ensures cells_have_styles { CellsHaveStyles }
+    ensures screens_have_a_width { ScreensHaveAWidth }
 {}
 
 /// Splits of the screen (Standard, section 8.6.1).

@@ -4,6 +4,7 @@ use Rattle.std.proofs.Common.{Result, Ok, Err, refl, ap, sym, arith, nat_lt}
 use Rattle.std.specs.Prelude.{if◌then◌else◌}
 use Rattle.std.proofs.lemmas.Bool.Decides.{nat_tests}
 use Rattle.std.proofs.lemmas.List.{length-take}
+use Rattle.zk_mem.specs.declared.memory.Setup.{Setup}
 use Rattle.zk_mem.specs.declared.fault.Fault.{Fault}
 use Rattle.zk_mem.specs.Results.{◌>>=◌}
 use Rattle.zk_state.specs.declared.refusal.Limit.{Limit}
@@ -265,7 +266,7 @@ pub record Counts (s t : State) : Type 0 where
 
 pub same_most : (m n : MemoryMap) → fixed_parts n ≡ fixed_parts m → n.undo_states ≡ m.undo_states
 unfolding fixed_parts
-same_most m n e = ap (λ (p : (ℕ × ℕ) × (List ℕ × ℕ)). p.1.1) e
+same_most m n e = ap (λ (p : (ℕ × ℕ) × (List ℕ × Setup)). p.1.1) e
 
 -- where a step goes on, it counts
 abbrev CountsOn : State → Step → Type 0

@@ -2,6 +2,7 @@
 use Rattle.std.proofs.Common.{◌≡◌, ◌∙◌, ◌≤◌, ◌<◌, ℕ, List, [], ◌∷◌, length, Option, Some, None, Result, Ok, Err, refl}
 use Rattle.std.proofs.Common.{ap, arith}
 use Rattle.std.specs.Prelude.{map}
+use Rattle.zk_mem.specs.declared.memory.Setup.{Setup}
 use Rattle.zk_mem.specs.Fresh.{fresh}
 use Rattle.zk_mem.specs.Map.{MemoryMap}
 use Rattle.zk_mem.specs.Again.{again, settled}
@@ -38,7 +39,7 @@ can_answer_none m (Some w) e = absurd cc
 
 pub same_most : (m n : MemoryMap) → fixed_parts n ≡ fixed_parts m → n.undo_states ≡ m.undo_states
 unfolding fixed_parts
-same_most m n e = ap (λ (p : (ℕ × ℕ) × (List ℕ × ℕ)). p.1.1) e
+same_most m n e = ap (λ (p : (ℕ × ℕ) × (List ℕ × Setup)). p.1.1) e
 
 -- memory that is put back has them too
 pub back_fixed : (w : WholeState) (m : MemoryMap) → fixed_parts (memory_back w m) ≡ fixed_parts m

@@ -3,6 +3,7 @@
 use Rattle.std.specs.Prelude.{◌≡◌, ℕ, Bool, List, [], ◌∷◌, Option, Some, None, Result, Ok, Err, true, false, map, codes}
 use Rattle.zk_mem.specs.declared.fault.Fault.{Fault}
 use Rattle.zk_mem.specs.declared.fault.Fault.TheVariants.{CodePastEnd, BadOpcode, MissingOperand}
+use Rattle.zk_mem.specs.Fresh.{plain_setup}
 use Rattle.zk_code.specs.declared.branch.BranchTarget.{BranchTarget}
 use Rattle.zk_code.specs.declared.branch.BranchTarget.TheVariants.{ReturnFalse, ReturnTrue, At, Below, Past}
 use Rattle.zk_code.specs.declared.instr.Instr.{Instr}
@@ -45,7 +46,7 @@ use Rattle.zk_code.specs.Targets.{branch_target, jump_target}
 -- what is read at address 0 of a story of a version with these bytes
 abbrev pub read : ℕ → List ℕ → Result Instr Fault
 read version bytes =
-    instr_at (record { version = version; static_base = 0; bytes = bytes; file = []; undo_states = 0 }) 0
+    instr_at (record { version = version; static_base = 0; bytes = bytes; file = []; setup = plain_setup 0 }) 0
 
 -- an instruction with no branch and no text
 abbrev pub plain : Opcode → List Operand → Option ℕ → ℕ → Result Instr Fault

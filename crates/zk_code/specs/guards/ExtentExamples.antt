@@ -1,12 +1,19 @@
 -- Worked examples of where code ends and of the routine after it, by the Standard's sections 1.2.3, 4.7, 5.2 and 15,
 -- worked out by hand.
 use Rattle.std.specs.Prelude.{◌≡◌, ℕ, List, [], ◌∷◌, map, replicate}
+use Rattle.zk_mem.specs.Fresh.{plain_setup}
 use Rattle.zk_mem.specs.Map.{MemoryMap}
 use Rattle.zk_code.specs.Extent.{IsExtent, IsNeighbour, IsRoutine, next_packed}
 
 -- a story of a version with these bytes
 abbrev pub story_of : ℕ → List ℕ → MemoryMap
-story_of version bytes = record { version = version; static_base = 0; bytes = bytes; file = bytes; undo_states = 0 }
+story_of version bytes = record {
+  version = version;
+  static_base = 0;
+  bytes = bytes;
+  file = bytes;
+  setup = plain_setup 0;
+}
 
 -- packed addresses stand for each second, fourth and eighth byte in versions 3, 5 and 8 (section 1.2.3)
 abbrev pub PackedByUnits : Type 0

@@ -1,6 +1,7 @@
 -- Worked examples of ways on from an instruction and of what is reached, by the Standard's sections 4.7, 5, 6.4 and 15,
 -- worked out by hand.
 use Rattle.std.specs.Prelude.{◌≡◌, ℕ, List, [], ◌∷◌, Some, None, true, false, map, replicate}
+use Rattle.zk_mem.specs.Fresh.{plain_setup}
 use Rattle.zk_mem.specs.Map.{MemoryMap}
 use Rattle.zk_code.specs.declared.branch.BranchTarget.{BranchTarget}
 use Rattle.zk_code.specs.declared.branch.BranchTarget.TheVariants.{ReturnFalse, ReturnTrue, At, Below, Past}
@@ -86,7 +87,13 @@ BranchesToAddresses =
 
 -- a story of 100 bytes
 abbrev pub hundred : ℕ → MemoryMap
-hundred version = record { version = version; static_base = 0; bytes = replicate 100 0; file = []; undo_states = 0 }
+hundred version = record {
+  version = version;
+  static_base = 0;
+  bytes = replicate 100 0;
+  file = [];
+  setup = plain_setup 0;
+}
 
 -- a `jump` by a constant leads on from the address after it by so many, less 2, with a sign: 53 + 10 - 2 is 61, and
 -- 53 - 16 - 2 is 35. Nothing is known of one by a variable, nor of one out of the story, and no other opcode jumps
@@ -133,7 +140,7 @@ calling =
     ∷ 0xb0 ∷ []
 
 abbrev pub calling_story : MemoryMap
-calling_story = record { version = 3; static_base = 0; bytes = calling; file = calling; undo_states = 0 }
+calling_story = record { version = 3; static_base = 0; bytes = calling; file = calling; setup = plain_setup 0 }
 
 -- the first instruction is reached, and from there each way on (sections 4.7, 5.3, 5.5 and 15)
 abbrev pub WaysAreReached : Type 0

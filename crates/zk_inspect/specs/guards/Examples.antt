@@ -1,6 +1,7 @@
 -- Worked examples of this crate's definitions. Their values come from the Standard and from the layout of the listings,
 -- by hand, and no definition made them.
 use Rattle.std.specs.Prelude.{◌≡◌, ℕ, List, [], ◌∷◌, ◌++◌, map, replicate, codes, Some, None, true, false}
+use Rattle.zk_mem.specs.Fresh.{plain_setup}
 use Rattle.zk_mem.specs.Map.{MemoryMap}
 use Rattle.zk_mem.specs.declared.fault.Fault.TheVariants.{CodePastEnd, TextPastEnd, NestedAbbreviation as NestedFault}
 use Rattle.zk_code.specs.declared.branch.BranchTarget.TheVariants.{ReturnFalse, ReturnTrue, At, Below, Past}
@@ -114,7 +115,7 @@ BranchesBehindAMark =
 
 -- memory of a version with these bytes, whose header names no tables
 abbrev pub memory_of : ℕ → List ℕ → MemoryMap
-memory_of version bytes = record { version = version; static_base = 0; bytes = bytes; file = []; undo_states = 0 }
+memory_of version bytes = record { version = version; static_base = 0; bytes = bytes; file = []; setup = plain_setup 0 }
 
 -- the line of address 0 of a story of a version with these bytes
 abbrev pub line_of : ℕ → List ℕ → List ℕ
@@ -217,7 +218,7 @@ lines m listing = lines_of false m (listing m)
 -- memory with a file whose header names tables
 abbrev pub memory_by : ℕ → List ℕ → List ℕ → MemoryMap
 memory_by version file bytes =
-    record { version = version; static_base = 0; bytes = bytes; file = file; undo_states = 0 }
+    record { version = version; static_base = 0; bytes = bytes; file = file; setup = plain_setup 0 }
 
 -- a file of 72 bytes, whose header states 18 units; after it stand 1 to 5
 abbrev pub file_of : ℕ → List ℕ

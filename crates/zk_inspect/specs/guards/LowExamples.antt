@@ -1,5 +1,6 @@
 -- Worked examples of code that a run may rewrite, by the Standard's sections 1.1.1, 5.2 and 6.4, worked out by hand.
 use Rattle.std.specs.Prelude.{◌≡◌, ℕ, List, [], ◌∷◌}
+use Rattle.zk_mem.specs.Fresh.{plain_setup}
 use Rattle.zk_mem.specs.Map.{MemoryMap}
 use Rattle.zk_code.specs.guards.CleanExamples.{calling_from}
 use Rattle.zk_inspect.specs.declared.check.finding.Number.TheVariants.{CodeBelowTheStaticBase}
@@ -26,7 +27,7 @@ calling_back =
 -- with dynamic memory up to here
 abbrev pub calling_back_from : ℕ → MemoryMap
 calling_back_from base =
-    record { version = 3; static_base = base; bytes = calling_back; file = calling_back; undo_states = 0 }
+    record { version = 3; static_base = base; bytes = calling_back; file = calling_back; setup = plain_setup 0 }
 
 -- the call is low where the byte at 8 is one of dynamic memory, and neither the return nor what stands after the call
 -- is (sections 1.1.1, 5.2 and 6.4)

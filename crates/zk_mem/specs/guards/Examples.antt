@@ -12,7 +12,8 @@ use Rattle.zk_mem.specs.declared.story.OpenError.TheVariants.{OutOfMemory}
 use Rattle.zk_mem.specs.Again.{settled, again, restarted}
 use Rattle.zk_mem.specs.Checksum.{file_sum, has_right_sum}
 use Rattle.zk_mem.specs.Faults.{fault_number}
-use Rattle.zk_mem.specs.Fresh.{with_fields, fresh}
+use Rattle.zk_mem.specs.Fresh.{with_fields, fresh, plain_setup}
+use Rattle.zk_mem.specs.declared.memory.Setup.{Setup}
 use Rattle.zk_mem.specs.Header.{header_of, unpacked}
 use Rattle.zk_mem.specs.Map.{MemoryMap, readable_end, byte_at, word_at, byte_put, word_put, with_copy, cell_at}
 use Rattle.zk_mem.specs.Map.{code_word_at}
@@ -75,7 +76,7 @@ PackedByVersion =
 
 -- memory with these bytes, of which three are dynamic
 abbrev pub three_dynamic : List ℕ → MemoryMap
-three_dynamic bytes = record { version = 5; static_base = 3; bytes = bytes; file = []; undo_states = 0 }
+three_dynamic bytes = record { version = 5; static_base = 3; bytes = bytes; file = []; setup = plain_setup 0 }
 
 -- four bytes: 0x11 at address 0 up to 0x44 at 3
 abbrev pub four : MemoryMap
@@ -230,18 +231,18 @@ FaultsHaveNumbers =
 -- letters of one width; the standard is 1.1 (section 11.1).
 abbrev pub FieldsOfVersion3 : Type 0
 FieldsOfVersion3 =
-    with_fields 3 0 (replicate 64 0xff)
+    with_fields 3 (plain_setup 0) (replicate 64 0xff)
     ≡ 0xff ∷ 0xaf ∷ [] ++ replicate 48 0xff ++ 1 ∷ 1 ∷ [] ++ replicate 12 0xff
 
 -- the same where no bit was set (section 11.1)
 abbrev pub FieldsOfVersion3SetABit : Type 0
 FieldsOfVersion3SetABit =
-    with_fields 3 0 (replicate 64 0) ≡ 0 ∷ 0x20 ∷ [] ++ replicate 48 0 ++ 1 ∷ 1 ∷ [] ++ replicate 12 0
+    with_fields 3 (plain_setup 0) (replicate 64 0) ≡ 0 ∷ 0x20 ∷ [] ++ replicate 48 0 ++ 1 ∷ 1 ∷ [] ++ replicate 12 0
 
 -- version 4: Flags 1, interpreter 6 of version A, 255 lines of 80 columns, the standard 1.1 (section 11.1)
 abbrev pub FieldsOfVersion4 : Type 0
 FieldsOfVersion4 =
-    with_fields 4 0 (replicate 64 0xff)
+    with_fields 4 (plain_setup 0) (replicate 64 0xff)
     ≡ 0xff ∷ 0x50 ∷ [] ++ replicate 28 0xff ++ 6 ∷ 65 ∷ 255 ∷ 80 ∷ [] ++ replicate 16 0xff ++ 1 ∷ 1 ∷ []
     ++ replicate 12 0xff
 
@@ -249,7 +250,7 @@ FieldsOfVersion4 =
 -- Flags 2 no pictures, undo, mouse, colours, sounds or menus (section 11.1)
 abbrev pub FieldsOfVersion5 : Type 0
 FieldsOfVersion5 =
-    with_fields 5 0 (replicate 64 0xff)
+    with_fields 5 (plain_setup 0) (replicate 64 0xff)
     ≡ 0xff ∷ 0x50 ∷ [] ++ replicate 14 0xff ++ 0xfe ∷ 0x07 ∷ [] ++ replicate 12 0xff
     ++ 6 ∷ 65 ∷ 255 ∷ 80 ∷ 0 ∷ 80 ∷ 0 ∷ 255 ∷ 1 ∷ 1 ∷ [] ++ replicate 4 0xff ++ 2 ∷ 9 ∷ [] ++ replicate 4 0xff
     ++ 1 ∷ 1 ∷ [] ++ replicate 12 0xff
@@ -257,22 +258,38 @@ FieldsOfVersion5 =
 -- version 8 is the same, here where undo states are kept: the bit of undo stays (section 11.1)
 abbrev pub FieldsOfVersion8 : Type 0
 FieldsOfVersion8 =
-    with_fields 8 1 (replicate 64 0xff)
+    with_fields 8 (plain_setup 1) (replicate 64 0xff)
     ≡ 0xff ∷ 0x50 ∷ [] ++ replicate 14 0xff ++ 0xfe ∷ 0x17 ∷ [] ++ replicate 12 0xff
     ++ 6 ∷ 65 ∷ 255 ∷ 80 ∷ 0 ∷ 80 ∷ 0 ∷ 255 ∷ 1 ∷ 1 ∷ [] ++ replicate 4 0xff ++ 2 ∷ 9 ∷ [] ++ replicate 4 0xff
     ++ 1 ∷ 1 ∷ [] ++ replicate 12 0xff
 
+-- a screen of 120 columns with bold and italic text, and two undo states
+abbrev pub wide_setup : Setup
+wide_setup = record { undo_states = 2; screen = record { columns = 120; styles = true } }
+
+-- Flags 1 says from version 4 on that bold (bit 2), italic (bit 3) and fixed-pitch text (bit 4) is there; the line has
+-- 120 characters, and from version 5 on as many units (sections 8.4 and 11.1)
+abbrev pub FieldsOfAWideScreen : Type 0
+FieldsOfAWideScreen =
+    (with_fields 4 wide_setup (replicate 64 0)
+    ≡ 0 ∷ 0x1c ∷ [] ++ replicate 28 0 ++ 6 ∷ 65 ∷ 255 ∷ 120 ∷ [] ++ replicate 16 0 ++ 1 ∷ 1 ∷ [] ++ replicate 12 0)
+    × (with_fields 5 wide_setup (replicate 64 0xff)
+    ≡ 0xff ∷ 0x5c ∷ [] ++ replicate 14 0xff ++ 0xfe ∷ 0x17 ∷ [] ++ replicate 12 0xff
+    ++ 6 ∷ 65 ∷ 255 ∷ 120 ∷ 0 ∷ 120 ∷ 0 ∷ 255 ∷ 1 ∷ 1 ∷ [] ++ replicate 4 0xff ++ 2 ∷ 9 ∷ [] ++ replicate 4 0xff
+    ++ 1 ∷ 1 ∷ [] ++ replicate 12 0xff)
+    × (with_fields 3 wide_setup (replicate 64 0xff) ≡ with_fields 3 (plain_setup 2) (replicate 64 0xff))
+
 -- the memory at the start has the version and the static base of the file, which is kept beside it (section 11.1)
 abbrev pub MemoryStartsSo : Type 0
 MemoryStartsSo =
-    fresh (file_with 3 0 64) 2
+    fresh (file_with 3 0 64) (plain_setup 2)
     ≡ record {
       version = 3;
       static_base = 64;
       bytes = 3 ∷ 0x20 ∷ 0 ∷ 0 ∷ 0 ∷ 0 ∷ 0 ∷ 0 ∷ 0 ∷ 0 ∷ 0 ∷ 0 ∷ 0 ∷ 0 ∷ 0 ∷ 64 ∷ [] ++ replicate 34 0 ++ 1 ∷ 1
           ∷ [] ++ replicate 12 0;
       file = file_with 3 0 64;
-      undo_states = 2;
+      setup = plain_setup 2;
     }
 
 -- ---- the checksum (section 11.1.6, and section 15, `verify`)
@@ -317,7 +334,7 @@ SumsAreCompared =
 -- memory of version 3 whose bytes are all 9, over a file of 64 bytes
 abbrev pub written_over : MemoryMap
 written_over =
-    record { version = 3; static_base = 64; bytes = replicate 64 9; file = file_with 3 0 64; undo_states = 2 }
+    record { version = 3; static_base = 64; bytes = replicate 64 9; file = file_with 3 0 64; setup = plain_setup 2 }
 
 -- a restart puts the file's bytes back, but for bits 0 and 1 of Flags 2, which were 1 and 0, and sets the header's
 -- fields (section 6.1.3)
@@ -327,6 +344,10 @@ RestartsSo =
       bytes = 3 ∷ 0x20 ∷ 0 ∷ 0 ∷ 0 ∷ 0 ∷ 0 ∷ 0 ∷ 0 ∷ 0 ∷ 0 ∷ 0 ∷ 0 ∷ 0 ∷ 0 ∷ 64 ∷ 0 ∷ 1 ∷ [] ++ replicate 32 0
           ++ 1 ∷ 1 ∷ [] ++ replicate 12 0;
     }
+
+-- a restart sets them again (section 6.1.3)
+abbrev pub WideScreensStay : Type 0
+WideScreensStay = slice_index (restarted (record written_over { version = 4; setup = wide_setup })).bytes 0x21 ≡ 120
 
 -- other bytes are put back in the same way: of 0xfd bit 0 stays set and bit 1 stays clear, of 0xfe the other way round
 -- (section 6.1)
@@ -352,11 +373,11 @@ abbrev pub SettlesLaterVersions : Type 0
 SettlesLaterVersions =
     (slice_index (settled 1 (record written_over {
       version = 5;
-      undo_states = 0;
+      setup = plain_setup 0;
       bytes = replicate 64 0xff;
     })).bytes 0x11 ≡ 0x05)
     × (slice_index (settled 2 (record written_over {
       version = 5;
-      undo_states = 1;
+      setup = plain_setup 1;
       bytes = replicate 64 0xff;
     })).bytes 0x11 ≡ 0x16)

@@ -3,6 +3,7 @@ use Rattle.std.specs.Prelude.{◌≡◌, ◌-◌, ◌^◌, true, false, ℕ, Lis
 use Rattle.std.specs.Prelude.{None}
 use Rattle.std.specs.List.{filter_map, list_any}
 use Rattle.std.specs.Str.Lines.{lines}
+use Rattle.zk_mem.specs.Fresh.{plain_setup}
 use Rattle.zk_mem.specs.Map.{MemoryMap}
 use Rattle.zk_inspect.specs.declared.check.finding.Number.{Number}
 use Rattle.zk_inspect.specs.declared.check.finding.Number.TheVariants as number
@@ -38,7 +39,7 @@ ListsAreRead =
 
 -- a story of version 3 whose object table is at 0: the entry of object 2 is at 71
 abbrev pub story : MemoryMap
-story = record { version = 3; static_base = 0; bytes = []; file = 3 ∷ replicate 63 0; undo_states = 0 }
+story = record { version = 3; static_base = 0; bytes = []; file = 3 ∷ replicate 63 0; setup = plain_setup 0 }
 
 -- the line of a story stands first, and may stand again; that of another story, or of another build, is foreign
 abbrev pub StoriesAreTold : Type 0
@@ -56,7 +57,7 @@ StoriesAreTold =
       static_base = 0;
       bytes = [];
       file = 3 ∷ replicate 63 0 ++ 255 ∷ 255 ∷ 1 ∷ [];
-      undo_states = 0;
+      setup = plain_setup 0;
     }) ≡ codes "story ?????? 01ff 67")
 
 abbrev pub found : Number → ℕ → Fact

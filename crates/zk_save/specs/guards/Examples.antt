@@ -14,6 +14,7 @@ use Rattle.zk_save.specs.Quetzal.{Chunk, bytes_2, bytes_3, bytes_4, chunk_bytes,
 use Rattle.zk_save.specs.Quetzal.{story_content, memory_part, saved}
 use Rattle.zk_save.specs.States.{WholeState, state_of, states_in, gone_back}
 use Rattle.zk_state.specs.Frames.{Frame, FrameList}
+use Rattle.zk_mem.specs.Fresh.{plain_setup}
 use Rattle.zk_mem.specs.Map.{MemoryMap}
 use Rattle.zk_mem.specs.Again.{again}
 
@@ -68,7 +69,7 @@ frames_with f = record { current = f; callers = []; most_frames = 2; most_words 
 
 -- memory of two dynamic bytes over a file of three
 abbrev pub memory_with : List ℕ → MemoryMap
-memory_with bytes = record { version = 3; static_base = 2; bytes = bytes; file = 1 ∷ 2 ∷ 3 ∷ []; undo_states = 1 }
+memory_with bytes = record { version = 3; static_base = 2; bytes = bytes; file = 1 ∷ 2 ∷ 3 ∷ []; setup = plain_setup 1 }
 
 -- what differs from the file is kept, and gives the whole state over the file
 abbrev pub DifferencesAreKept : Type 0
@@ -164,7 +165,7 @@ GamesAreSaved =
       static_base = 3;
       bytes = 3 ∷ 0x20 ∷ [] ++ drop 2 (story_file 7);
       file = story_file 7;
-      undo_states = 0;
+      setup = plain_setup 0;
     })
     (record {
       current = record { locals = []; words = []; pc = 0; result = None; supplied = 0 };
@@ -305,7 +306,13 @@ stack_chunk flags = head (codes "Stks") 8 ++ 0 ∷ 0 ∷ 0 ∷ flags ∷ 0 ∷ 0
 
 -- memory of a story with three bytes of dynamic memory
 abbrev pub memory_of_story : MemoryMap
-memory_of_story = record { version = 3; static_base = 3; bytes = story_file 7; file = story_file 7; undo_states = 0 }
+memory_of_story = record {
+  version = 3;
+  static_base = 3;
+  bytes = story_file 7;
+  file = story_file 7;
+  setup = plain_setup 0;
+}
 
 -- what is loaded from a game
 abbrev pub loaded_from : List ℕ → Result WholeState RestoreError

@@ -3,6 +3,7 @@
 use Rattle.std.specs.Prelude.{◌≡◌, ℕ, List, [], ◌∷◌, Option, Some, None, Ok, Err, true, false, ◌+◌, ◌*◌, ◌-◌, ◌/◌, ◌%◌}
 use Rattle.std.specs.Prelude.{◌<◌}
 use Rattle.zk_mem.specs.declared.fault.Fault.TheVariants.{DivisionByZero, StackEmpty, NoSuchLocal}
+use Rattle.zk_mem.specs.Fresh.{plain_setup}
 use Rattle.zk_mem.specs.Map.{MemoryMap}
 use Rattle.zk_state.specs.Frames.{Frame}
 use Rattle.zk_code.specs.declared.branch.Branch.{Branch}
@@ -36,7 +37,7 @@ memory_of version bytes = record {
   static_base = 999;
   bytes = bytes;
   file = 0 ∷ 0 ∷ 0 ∷ 0 ∷ 0 ∷ 0 ∷ 0 ∷ 0 ∷ 0 ∷ 0 ∷ 0 ∷ 0 ∷ 0 ∷ 4 ∷ [];
-  undo_states = 0;
+  setup = plain_setup 0;
 }
 
 -- sixteen bytes: 0xa0 at address 0, 0xa1 at address 1, up to 0xaf at address 15

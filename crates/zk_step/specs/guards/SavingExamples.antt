@@ -2,6 +2,7 @@
 -- by hand.
 use Rattle.std.specs.Prelude.{◌≡◌, ℕ, true, false, List, [], ◌∷◌, ◌++◌, Some, None, Ok, Err, replicate, codes}
 use Rattle.zk_mem.specs.declared.fault.Fault.TheVariants.{ReadOnly, StackEmpty, NoSuchLocal, BadTarget, ReturnFromMain}
+use Rattle.zk_mem.specs.Fresh.{plain_setup}
 use Rattle.zk_mem.specs.Map.{MemoryMap}
 use Rattle.zk_code.specs.declared.branch.BranchTarget.TheVariants as target
 use Rattle.zk_code.specs.declared.instr.Instr.{Instr}
@@ -65,7 +66,8 @@ file_with_sum high low = 3 ∷ replicate 26 0 ++ 33 ∷ high ∷ low ∷ replica
 
 -- a memory of this file, all of whose bytes the story has changed
 abbrev pub changed_memory : List ℕ → MemoryMap
-changed_memory file = record { version = 3; static_base = 66; bytes = replicate 66 7; file = file; undo_states = 0 }
+changed_memory file = record { version = 3; static_base = 66; bytes = replicate 66 7; file = file; setup =
+    plain_setup 0 }
 
 -- the file's own bytes are summed, in 16 bits, and the checksum's high byte comes first (section 15, `verify`)
 abbrev pub SumsAreVerified : Type 0
@@ -124,7 +126,7 @@ file_of_3 = bytes_of_3 0b11010010 1 0x23 0b10100010 77
 
 -- its memory, with these bytes
 abbrev pub memory_of_3 : List ℕ → MemoryMap
-memory_of_3 bytes = record { version = 3; static_base = 65; bytes = bytes; file = file_of_3; undo_states = 4 }
+memory_of_3 bytes = record { version = 3; static_base = 65; bytes = bytes; file = file_of_3; setup = plain_setup 4 }
 
 -- a game state whose story was at work: it has changed its header, called a routine, turned stream 1 off and opened
 -- tables, and prints in the upper window

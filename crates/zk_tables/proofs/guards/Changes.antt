@@ -65,7 +65,7 @@ put_changes m n place v h =
       version = alone.version;
       static_base = alone.static_base;
       file = alone.file;
-      undo_states = alone.undo_states;
+      setup = alone.setup;
       size = alone.size;
     }
 
@@ -92,7 +92,7 @@ changes_join l m n ps qs c d = record {
   version = d.version ∙ c.version;
   static_base = d.static_base ∙ c.static_base;
   file = d.file ∙ c.file;
-  undo_states = d.undo_states ∙ c.undo_states;
+  setup = d.setup ∙ c.setup;
   size = d.size ∙ c.size;
 }
 
@@ -105,6 +105,6 @@ changes_more m n ps qs more c = record {
   version = c.version;
   static_base = c.static_base;
   file = c.file;
-  undo_states = c.undo_states;
+  setup = c.setup;
   size = c.size;
 }

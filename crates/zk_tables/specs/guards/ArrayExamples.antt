@@ -2,6 +2,7 @@
 -- them. A size from 32768 on is negative: 65533 is -3 (Standard, section 2.2).
 use Rattle.std.specs.Prelude.{◌≡◌, ℕ, List, [], ◌∷◌, length, slice_index, Some, None, Ok, Err}
 use Rattle.zk_mem.specs.declared.fault.Fault.TheVariants.{BadAddress, ReadOnly}
+use Rattle.zk_mem.specs.Fresh.{plain_setup}
 use Rattle.zk_mem.specs.Map.{MemoryMap}
 use Rattle.zk_text.specs.declared.unit.Unit.TheVariants.{Code}
 use Rattle.zk_tables.specs.declared.arrays.rectangle.Rectangle.{Rectangle}
@@ -15,7 +16,7 @@ use Rattle.zk_tables.specs.Signed.{magnitude}
 
 -- memory with these bytes, of which six are dynamic
 abbrev pub six_dynamic : List ℕ → MemoryMap
-six_dynamic bytes = record { version = 5; static_base = 6; bytes = bytes; file = []; undo_states = 0 }
+six_dynamic bytes = record { version = 5; static_base = 6; bytes = bytes; file = []; setup = plain_setup 0 }
 
 -- eight bytes: 10 at address 0 up to 17 at 7
 abbrev pub eight : MemoryMap

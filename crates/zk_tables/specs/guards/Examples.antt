@@ -4,6 +4,7 @@ use Rattle.std.specs.Prelude.{◌≡◌, ℕ, Bool, List, [], ◌∷◌, ◌++�
 use Rattle.std.specs.Prelude.{◌==◌, if◌then◌else◌}
 use Rattle.zk_mem.specs.declared.fault.Fault.TheVariants.{BadAddress, BadDictionary, BadObject, BadProperty, BadTree}
 use Rattle.zk_mem.specs.declared.fault.Fault.TheVariants.{ReadOnly}
+use Rattle.zk_mem.specs.Fresh.{plain_setup}
 use Rattle.zk_mem.specs.Map.{MemoryMap}
 use Rattle.zk_tables.specs.declared.dictionary.Dictionary.{Dictionary}
 use Rattle.zk_tables.specs.declared.words.Word.{Word}
@@ -26,7 +27,7 @@ memory_of version bytes = record {
   static_base = 999;
   bytes = bytes;
   file = 0 ∷ 0 ∷ 0 ∷ 0 ∷ 0 ∷ 0 ∷ 0 ∷ 0 ∷ 0 ∷ 0 ∷ 0 ∷ 4 ∷ [];
-  undo_states = 0;
+  setup = plain_setup 0;
 }
 
 -- ---- the table (sections 12.2 and 12.3)

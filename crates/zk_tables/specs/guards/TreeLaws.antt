@@ -32,7 +32,7 @@ pub record ChangesOnly (m n : MemoryMap) (places : List LinkPlace) : Type 0 wher
   pub version : n.version ≡ m.version
   pub static_base : n.static_base ≡ m.static_base
   pub file : n.file ≡ m.file
-  pub undo_states : n.undo_states ≡ m.undo_states
+  pub setup : n.setup ≡ m.setup
   pub size : length n.bytes ≡ length m.bytes
 
 -- objects, without one of them

@@ -1,23 +1,25 @@
 -- Splits, erasures and the cursor.
-use Rattle.std.proofs.Common.{◌≡◌, ◌≢◌, ◌∙◌, ◌<◌, ◌≤◌, ◌&&◌, ℕ, Bool, true, false, List, [], ◌∷◌, ◌++◌, suc, arith, ap}
+use Rattle.std.proofs.Common.{◌≡◌, ◌≢◌, ◌∙◌, ◌+◌, ◌<◌, ◌≤◌, ◌&&◌, ℕ, Bool, true, false, List, [], ◌∷◌, ◌++◌, suc}
+use Rattle.std.proofs.Common.{arith, ap}
 use Rattle.std.proofs.Common.{sym, refl, inl, inr, cond, min, nat_le, nat_lt, nat_eq, if◌then◌else◌}
 use Rattle.std.proofs.lemmas.Bool.{cases_Bool, cond_both, cond-true, cond-false, eq-eqb, ne_eqb, eqb-true, eqb-false}
 use Rattle.std.proofs.lemmas.Bool.{lt-ltb, le-ltb}
+use Rattle.zk_term.specs.declared.windows.Cell.{Cell}
 use Rattle.zk_term.specs.declared.windows.Window.{Window}
 use Rattle.zk_term.specs.declared.windows.Window.TheVariants.{Lower, Upper}
 use Rattle.zk_term.specs.Grid.{Cells, blank, is_on_grid, no_cells, emptied, cell_put}
 use Rattle.zk_term.specs.Windows.{Windows, first_windows, homed, homed_below, past, kept_if_lower, with_height, split}
 use Rattle.zk_term.specs.Windows.{window_selected, cleared, unsplit, line_erased, cursor_set, next_row, character_put}
-use Rattle.zk_term.specs.Windows.{moved_right, character_printed, printed, before_blanks, without_last_blanks}
-use Rattle.zk_term.specs.Windows.{columns_from, row_text}
+use Rattle.zk_term.specs.Windows.{moved_right, character_printed, printed, before_blanks, without_last}
+use Rattle.zk_term.specs.Windows.{is_space, row_cells, row_text, styled}
 use Rattle.zk_term.specs.guards.WindowLaws.{IsSplit, SplitsEmptyThePast, IsNearTheGrid, KeepsTheCursor}
 use Rattle.zk_term.specs.guards.WindowLaws.{IsWithoutLastSpaces, SpacesAtTheEndGo, ClearedRowsHaveNoText}
 use Rattle.zk_term.proofs.Grids.{at-on_grid}
-use Rattle.zk_term.proofs.Rows.{no_text}
+use Rattle.zk_term.proofs.Rows.{no_text_in, no_cells_in}
 
 -- ---- cells that are emptied
 
-pub at-no_cells : (row column : ℕ) → no_cells.at row column ≡ 32
+pub at-no_cells : (row column : ℕ) → no_cells.at row column ≡ blank
 unfolding no_cells
 at-no_cells row column = elim (cases_Bool (is_on_grid row column)) [
   | inl on ↦ at-on_grid (λ r q. blank) row column on
@@ -25,24 +27,24 @@ at-no_cells row column = elim (cases_Bool (is_on_grid row column)) [
 ]
 
 pub at-emptied : (among : ℕ → ℕ → Bool) (cells : Cells) (row column : ℕ)
-    → (emptied among cells).at row column ≡ cond (among row column) 32 (cells.at row column)
+    → (emptied among cells).at row column ≡ cond (among row column) blank (cells.at row column)
 unfolding emptied
 at-emptied among cells row column = elim (cases_Bool (is_on_grid row column)) [
   | inl on ↦ at-on_grid (λ r q. if among r q then blank else cells.at r q) row column on
   | inr off ↦ (emptied among cells).blank_outside row column off
-      ∙ sym (cond_both (among row column) 32 (cells.at row column) (λ (c : ℕ). c ≡ 32) (λ _. refl)
+      ∙ sym (cond_both (among row column) blank (cells.at row column) (λ (c : Cell). c ≡ blank) (λ _. refl)
       (λ _. cells.blank_outside row column off))
 ]
 
 pub emptied_there : (among : ℕ → ℕ → Bool) (cells : Cells) (row column : ℕ) → among row column ≡ true
-    → (emptied among cells).at row column ≡ 32
+    → (emptied among cells).at row column ≡ blank
 emptied_there among cells row column there =
-    at-emptied among cells row column ∙ cond-true (among row column) 32 (cells.at row column) there
+    at-emptied among cells row column ∙ cond-true (among row column) blank (cells.at row column) there
 
 pub emptied_elsewhere : (among : ℕ → ℕ → Bool) (cells : Cells) (row column : ℕ) → among row column ≡ false
     → (emptied among cells).at row column ≡ cells.at row column
 emptied_elsewhere among cells row column other =
-    at-emptied among cells row column ∙ cond-false (among row column) 32 (cells.at row column) other
+    at-emptied among cells row column ∙ cond-false (among row column) blank (cells.at row column) other
 
 -- ---- splits
 
@@ -82,11 +84,11 @@ is_split version lines w v cells selected =
         (not_past version (min lines 255) row column other high)
         ∙ ap (λ (all : Cells). all.at row column) cells
 
-    past_there : (row column : ℕ) → min lines 255 < row → wider.cells.at row column ≡ 32
+    past_there : (row column : ℕ) → min lines 255 < row → wider.cells.at row column ≡ blank
     past_there row column low = emptied_there (past version (min lines 255)) v.cells row column
         (past_below version (min lines 255) row column low)
 
-    all_there : version ≡ 3 → (row column : ℕ) → wider.cells.at row column ≡ 32
+    all_there : version ≡ 3 → (row column : ℕ) → wider.cells.at row column ≡ blank
     all_there three row column = emptied_there (past version (min lines 255)) v.cells row column
         (past_in_3 version (min lines 255) row column three)
 
@@ -107,9 +109,15 @@ splits_empty_the_past version lines w =
 at_home : (w : Windows) → IsNearTheGrid (homed w)
 at_home w = record { row_from = omega arith; row_to = omega arith; column_from = omega arith; column_to = omega arith }
 
-near_first : IsNearTheGrid first_windows
+near_first : (width : ℕ) → IsNearTheGrid (first_windows width)
 unfolding first_windows
-near_first = record { row_from = omega arith; row_to = omega arith; column_from = omega arith; column_to = omega arith }
+near_first width = record {
+  row_from = omega arith;
+  row_to = omega arith;
+  column_from = omega arith;
+  column_to =
+      omega arith;
+}
 
 near_kept : (height : ℕ) (w : Windows) → IsNearTheGrid w → IsNearTheGrid (kept_if_lower height w)
 near_kept height w near =
@@ -169,7 +177,7 @@ unfolding cursor_set
 near_set row column w =
     record { row_from = omega arith; row_to = omega arith; column_from = omega arith; column_to = omega arith }
 
-near_next_row : (column : ℕ) (w : Windows) → 1 ≤ column → column ≤ 81 → IsNearTheGrid w
+near_next_row : (column : ℕ) (w : Windows) → 1 ≤ column → column ≤ w.width + 1 → IsNearTheGrid w
     → IsNearTheGrid (next_row column w)
 unfolding next_row
 near_next_row column w from to near =
@@ -177,8 +185,8 @@ near_next_row column w from to near =
 
 near_put : (c : ℕ) (w : Windows) → IsNearTheGrid w → IsNearTheGrid (character_put c w)
 near_put c w near =
-    cond_both (nat_le w.row w.height && nat_le w.column 80)
-    (record w { cells = cell_put w.cells w.row w.column c }) w IsNearTheGrid
+    cond_both (nat_le w.row w.height && nat_le w.column w.width)
+    (record w { cells = cell_put w.cells w.row w.column (styled c w) }) w IsNearTheGrid
     (λ _. record {
       row_from = near.row_from;
       row_to = near.row_to;
@@ -230,7 +238,7 @@ later_end c d ds ending [] e = cc
 later_end c d ds ending (x ∷ xs) e = ending xs cc
 
 spaces_before : (c : ℕ) (text cs : List ℕ) → IsWithoutLastSpaces text cs
-    → IsWithoutLastSpaces (before_blanks c text) (c ∷ cs)
+    → IsWithoutLastSpaces (before_blanks is_space c text) (c ∷ cs)
 spaces_before c [] cs rest =
     cond_both (nat_eq c 32) [] (c ∷ []) (λ (text : List ℕ). IsWithoutLastSpaces text (c ∷ cs))
     (λ is. let same : c ≡ 32 = eqb-true c 32 is in
@@ -252,10 +260,11 @@ spaces_before c (d ∷ ds) cs rest = record {
 }
 
 pub spaces_at_the_end_go : SpacesAtTheEndGo
-unfolding without_last_blanks
+unfolding without_last
 spaces_at_the_end_go [] = record { spaces = 0; rest = refl; ending = no_end 32 }
-spaces_at_the_end_go (c ∷ cs) = spaces_before c (without_last_blanks cs) cs (spaces_at_the_end_go cs)
+spaces_at_the_end_go (c ∷ cs) = spaces_before c (without_last is_space cs) cs (spaces_at_the_end_go cs)
 
 pub cleared_rows_have_no_text : ClearedRowsHaveNoText
-unfolding row_text cleared
-cleared_rows_have_no_text w row = no_text (no_cells.at row) (at-no_cells row) (columns_from 1 80)
+unfolding row_text row_cells cleared
+cleared_rows_have_no_text w row =
+    (no_text_in no_cells row (at-no_cells row), no_cells_in no_cells row (at-no_cells row))

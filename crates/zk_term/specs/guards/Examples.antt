@@ -5,8 +5,10 @@ use Rattle.zk_term.specs.declared.lines.InputEnd.TheVariants as over
 use Rattle.zk_term.specs.declared.open_line.LineKind.TheVariants.{Empty, Row, Words, AfterSpace}
 use Rattle.zk_term.specs.declared.style.Bleep.TheVariants.{Low}
 use Rattle.zk_term.specs.declared.style.Style.{Style}
+use Rattle.zk_term.specs.declared.windows.Cell.{Cell}
 use Rattle.zk_term.specs.declared.windows.Window.TheVariants.{Lower, Upper}
 use Rattle.zk_term.specs.Characters.{characters_of, line_codes}
+use Rattle.zk_term.specs.Grid.{blank}
 use Rattle.zk_term.specs.Lines.{Heard, heard}
 use Rattle.zk_term.specs.Signals.{screen_text, script_text}
 use Rattle.zk_term.specs.Signals.Signal.{Text, Script, Erase, Beep}
@@ -15,7 +17,7 @@ use Rattle.zk_term.specs.OpenLines.{kind_after, rest_after_space, rest_of_words}
 use Rattle.zk_term.specs.Wrapping.{wrapped}
 use Rattle.zk_term.specs.Windows.{Windows, first_windows, split, window_selected, cleared, unsplit, forgotten}
 use Rattle.zk_term.specs.Windows.{line_erased, cursor_set, next_row, printed, row_text, tallest_height}
-use Rattle.zk_term.specs.Windows.{tallest_row_text}
+use Rattle.zk_term.specs.Windows.{tallest_row_text, row_cells, tallest_row_cells}
 
 -- ---- characters (Unicode Standard, table 3-7)
 
@@ -134,9 +136,17 @@ TooManyBytes =
 
 -- ---- the upper window (sections 8.6 and 8.7)
 
+-- the windows at the start, on a screen of 80 columns
+abbrev pub first_here : Windows
+first_here = first_windows 80
+
+-- a character in no style
+abbrev pub plain : ℕ → Cell
+plain c = record { character = c; style = roman }
+
 -- an upper window of so many rows, which is selected
 abbrev pub upper_window : ℕ → Windows
-upper_window lines = window_selected Upper (split 5 lines first_windows)
+upper_window lines = window_selected Upper (split 5 lines first_here)
 
 -- the row and the column of the cursor
 abbrev pub cursor_of : Windows → ℕ × ℕ
@@ -149,12 +159,12 @@ three_rows = cursor_set 3 7 (printed (97 ∷ 10 ∷ 98 ∷ 10 ∷ 99 ∷ []) (up
 -- at the start there is no upper window, and the lower one is selected (section 8.7.2)
 abbrev pub WindowsAtTheStart : Type 0
 WindowsAtTheStart =
-    (first_windows.height ≡ 0)
-    × (first_windows.selected ≡ Lower)
-    × (cursor_of first_windows ≡ (1, 1))
-    × (first_windows.cells.at 1 1 ≡ 32)
-    × (first_windows.cells.at 255 80 ≡ 32)
-    × (row_text first_windows 1 ≡ [])
+    (first_here.height ≡ 0)
+    × (first_here.selected ≡ Lower)
+    × (cursor_of first_here ≡ (1, 1))
+    × (first_here.cells.at 1 1 ≡ blank)
+    × (first_here.cells.at 255 80 ≡ blank)
+    × (row_text first_here 1 ≡ [])
 
 -- characters stand in one cell after another, over what is there (section 8.7.2)
 abbrev pub CharactersOfARow : Type 0
@@ -181,9 +191,9 @@ NewLinesGoDown =
 -- what stands past column 80 is dropped, and the cursor stays at column 81
 abbrev pub TheLastColumn : Type 0
 TheLastColumn =
-    ((printed (codes "ab") (cursor_set 1 80 (upper_window 2))).cells.at 1 80 ≡ 97)
-    × ((printed (codes "ab") (cursor_set 1 80 (upper_window 2))).cells.at 1 79 ≡ 32)
-    × ((printed (codes "ab") (cursor_set 1 80 (upper_window 2))).cells.at 2 1 ≡ 32)
+    ((printed (codes "ab") (cursor_set 1 80 (upper_window 2))).cells.at 1 80 ≡ plain 97)
+    × ((printed (codes "ab") (cursor_set 1 80 (upper_window 2))).cells.at 1 79 ≡ blank)
+    × ((printed (codes "ab") (cursor_set 1 80 (upper_window 2))).cells.at 2 1 ≡ blank)
     × (cursor_of (printed (codes "a") (cursor_set 1 80 (upper_window 2))) ≡ (1, 81))
     × (cursor_of (printed (codes "ab") (cursor_set 1 80 (upper_window 2))) ≡ (1, 81))
     × (cursor_of (printed (97 ∷ 98 ∷ 10 ∷ []) (cursor_set 1 80 (upper_window 2))) ≡ (2, 1))
@@ -191,13 +201,13 @@ TheLastColumn =
 -- what stands below the height is dropped, and the cursor moves all the same
 abbrev pub BelowTheHeight : Type 0
 BelowTheHeight =
-    ((printed (codes "a") (cursor_set 2 1 (upper_window 2))).cells.at 2 1 ≡ 97)
-    × ((printed (codes "a") (cursor_set 2 1 (upper_window 1))).cells.at 2 1 ≡ 32)
+    ((printed (codes "a") (cursor_set 2 1 (upper_window 2))).cells.at 2 1 ≡ plain 97)
+    × ((printed (codes "a") (cursor_set 2 1 (upper_window 1))).cells.at 2 1 ≡ blank)
     × (cursor_of (printed (codes "a") (cursor_set 2 1 (upper_window 1))) ≡ (2, 2))
-    × ((split 5 2 (printed (codes "a") (cursor_set 2 1 (upper_window 1)))).cells.at 2 1 ≡ 32)
-    × ((printed (10 ∷ 97 ∷ []) (cursor_set 255 80 (upper_window 255))).cells.at 255 1 ≡ 32)
+    × ((split 5 2 (printed (codes "a") (cursor_set 2 1 (upper_window 1)))).cells.at 2 1 ≡ blank)
+    × ((printed (10 ∷ 97 ∷ []) (cursor_set 255 80 (upper_window 255))).cells.at 255 1 ≡ blank)
     × (cursor_of (printed (10 ∷ 97 ∷ []) (cursor_set 255 80 (upper_window 255))) ≡ (256, 2))
-    × ((printed (codes "a") (cursor_set 255 80 (upper_window 255))).cells.at 255 80 ≡ 97)
+    × ((printed (codes "a") (cursor_set 255 80 (upper_window 255))).cells.at 255 80 ≡ plain 97)
 
 -- a split empties the rows past the height, and in version 3 all (section 8.6.1.1)
 abbrev pub SplitsEmptyRows : Type 0
@@ -220,7 +230,7 @@ HeightsOfSplits =
     × ((split 5 256 three_rows).height ≡ 255)
     × ((split 5 65535 three_rows).height ≡ 255)
     × ((split 5 2 three_rows).selected ≡ Upper)
-    × ((split 5 2 first_windows).selected ≡ Lower)
+    × ((split 5 2 first_here).selected ≡ Lower)
 
 -- the cursor stays where it is not below the new height
 abbrev pub SplitsAndTheCursor : Type 0
@@ -262,10 +272,11 @@ RestsOfRows =
     × (row_text (line_erased (cursor_set 3 1 three_rows)) 2 ≡ codes "b")
     × (row_text (line_erased (cursor_set 2 1 three_rows)) 3 ≡ codes "c")
     × (cursor_of (line_erased three_rows) ≡ (3, 7))
-    × ((line_erased (printed (codes "z") (cursor_set 1 80 (upper_window 1)))).cells.at 1 80 ≡ 122)
-    × ((line_erased (cursor_set 1 80 (printed (codes "yz") (cursor_set 1 79 (upper_window 1))))).cells.at 1 80 ≡ 32)
-    × ((line_erased (cursor_set 1 80 (printed (codes "yz") (cursor_set 1 79 (upper_window 1))))).cells.at 1 79 ≡ 121)
-    × ((line_erased (printed (122 ∷ 10 ∷ []) (cursor_set 255 1 (upper_window 255)))).cells.at 255 1 ≡ 122)
+    × ((line_erased (printed (codes "z") (cursor_set 1 80 (upper_window 1)))).cells.at 1 80 ≡ plain 122)
+    × ((line_erased (cursor_set 1 80 (printed (codes "yz") (cursor_set 1 79 (upper_window 1))))).cells.at 1 80 ≡ blank)
+    × ((line_erased (cursor_set 1 80 (printed (codes "yz") (cursor_set 1 79 (upper_window 1))))).cells.at 1 79
+    ≡ plain 121)
+    × ((line_erased (printed (122 ∷ 10 ∷ []) (cursor_set 255 1 (upper_window 255)))).cells.at 255 1 ≡ plain 122)
 
 -- all cells are emptied, and the cursor goes to the top left; height and window stay (section 8.7.3)
 abbrev pub ClearedWindows : Type 0
@@ -275,7 +286,7 @@ ClearedWindows =
     × (cursor_of (cleared three_rows) ≡ (1, 1))
     × ((cleared three_rows).height ≡ 3)
     × ((cleared three_rows).selected ≡ Upper)
-    × ((cleared first_windows).selected ≡ Lower)
+    × ((cleared first_here).selected ≡ Lower)
 
 -- the same, and the upper window goes (section 8.7.3.3)
 abbrev pub UnsplitWindows : Type 0
@@ -344,6 +355,44 @@ TextsOfRows =
     × (row_text (printed (codes "z") (cursor_set 1 80 (upper_window 1))) 1 ≡ replicate 79 32 ++ 122 ∷ [])
     × (row_text (printed (replicate 82 120) (upper_window 2)) 1 ≡ replicate 80 120)
     × (row_text (printed (replicate 82 120) (upper_window 2)) 2 ≡ [])
+
+-- a cell has the style that was set when its character was printed, also a space, which the text of the row has not at
+-- its end; emptied cells are in no style (section 8.7.1)
+abbrev pub reversed : Windows → Windows
+reversed w = record w { style = record roman { reverse = true } }
+
+abbrev pub CellsHaveStyles : Type 0
+CellsHaveStyles =
+    (row_cells (printed (codes "ab") (upper_window 1)) 1 ≡ plain 97 ∷ plain 98 ∷ [])
+    × (row_cells (printed (codes "a ") (reversed (upper_window 1))) 1
+    ≡ record { character = 97; style = record roman { reverse = true } }
+    ∷ record { character = 32; style = record roman { reverse = true } } ∷ [])
+    × (row_text (printed (codes "a ") (reversed (upper_window 1))) 1 ≡ codes "a")
+    × (row_cells (printed (codes "a ") (upper_window 1)) 1 ≡ plain 97 ∷ [])
+    × (row_cells (printed (codes "b") (reversed (printed (codes "a") (upper_window 1)))) 1
+    ≡ plain 97 ∷ record { character = 98; style = record roman { reverse = true } } ∷ [])
+    × (row_cells (line_erased (cursor_set 1 2 (printed (codes "ab") (reversed (upper_window 1))))) 1
+    ≡ record { character = 97; style = record roman { reverse = true } } ∷ [])
+    × (row_cells (cleared (printed (codes "ab") (reversed (upper_window 1)))) 1 ≡ [])
+    × (tallest_row_cells (unsplit (printed (codes " ") (reversed (upper_window 1)))) 1
+    ≡ record { character = 32; style = record roman { reverse = true } } ∷ [])
+    × (row_cells (unsplit (printed (codes " ") (reversed (upper_window 1)))) 1 ≡ [])
+
+-- an upper window of one row on a screen of so many columns
+abbrev pub upper_row : ℕ → Windows
+upper_row width = window_selected Upper (split 5 1 (first_windows width))
+
+-- what stands past the last column of the screen is dropped, the cursor stays right past it, and is set up to it
+-- (section 8.7.2)
+abbrev pub ScreensHaveAWidth : Type 0
+ScreensHaveAWidth =
+    (row_text (printed (codes "abc") (cursor_set 1 39 (upper_row 40))) 1 ≡ replicate 38 32 ++ 97 ∷ 98 ∷ [])
+    × (cursor_of (printed (codes "abc") (cursor_set 1 39 (upper_row 40))) ≡ (1, 41))
+    × (cursor_of (cursor_set 1 80 (upper_row 40)) ≡ (1, 40))
+    × (cursor_of (cursor_set 1 80 (upper_row 100)) ≡ (1, 80))
+    × ((printed (codes "ab") (cursor_set 1 255 (upper_row 255))).cells.at 1 255 ≡ plain 97)
+    × (cursor_of (printed (codes "ab") (cursor_set 1 255 (upper_row 255))) ≡ (1, 256))
+    × ((split 5 7 (cleared (unsplit (upper_row 40)))).width ≡ 40)
 
 -- ---- wrapped text
 

@@ -2,18 +2,19 @@
 use Rattle.std.specs.Prelude.{◌≡◌, ◌≢◌, ◌+◌, ◌<◌, ◌≤◌, ℕ, List, [], ◌∷◌, ◌++◌, length, slice_index, replicate, min, max}
 use Rattle.std.specs.List.{AllByRecursion}
 use Rattle.zk_term.specs.declared.windows.Window.{Window}
+use Rattle.zk_term.specs.Grid.{blank}
 use Rattle.zk_term.specs.Windows.{Windows, first_windows, split, window_selected, cleared, unsplit, forgotten}
-use Rattle.zk_term.specs.Windows.{line_erased, cursor_set, next_row, printed, without_last_blanks, row_text}
-use Rattle.zk_term.specs.Windows.{tallest_height, tallest_row_text}
+use Rattle.zk_term.specs.Windows.{line_erased, cursor_set, next_row, printed, without_last, is_space, row_text}
+use Rattle.zk_term.specs.Windows.{tallest_height, tallest_row_text, styled, row_cells}
 
 -- none of the characters is a new line
 abbrev pub HasNoNewLine : List ℕ → Type 0
 HasNoNewLine cs = AllByRecursion (λ c. c ≢ 10) cs
 
--- The characters stand in consecutive cells from where the cursor was, which has come after them, and nothing else is
--- changed (section 8.7.2).
+-- The characters stand in consecutive cells from where the cursor was, in the style that is set, the cursor has come
+-- after them, and nothing else is changed (sections 8.7.1 and 8.7.2).
 pub record StandInARow (cs : List ℕ) (old new : Windows) : Type 0 where
-  pub here : (k : ℕ) → k < length cs → new.cells.at old.row (old.column + k) ≡ slice_index cs k
+  pub here : (k : ℕ) → k < length cs → new.cells.at old.row (old.column + k) ≡ styled (slice_index cs k) old
   pub left : (column : ℕ) → column < old.column → new.cells.at old.row column ≡ old.cells.at old.row column
   pub right : (column : ℕ) → old.column + length cs ≤ column → new.cells.at old.row column ≡ old.cells.at old.row column
   pub rows : (row column : ℕ) → row ≢ old.row → new.cells.at row column ≡ old.cells.at row column
@@ -24,12 +25,13 @@ pub record StandInARow (cs : List ℕ) (old new : Windows) : Type 0 where
 abbrev pub CharactersStandInARow : Type 0
 CharactersStandInARow =
     (cs : List ℕ) (w : Windows) → HasNoNewLine cs → 1 ≤ w.row → w.row ≤ w.height → w.height ≤ 255
-    → 1 ≤ w.column → w.column + length cs ≤ 81 → StandInARow cs w (printed cs w)
+    → 1 ≤ w.column → w.column + length cs ≤ w.width + 1 → w.width ≤ 255 → StandInARow cs w (printed cs w)
 
--- what is printed changes neither the height nor the selected window
+-- what is printed changes neither the height nor the selected window, nor how many columns there are
 abbrev pub PrintsKeepTheSplit : Type 0
 PrintsKeepTheSplit =
     (cs : List ℕ) (w : Windows) → ((printed cs w).height ≡ w.height) × ((printed cs w).selected ≡ w.selected)
+    × ((printed cs w).width ≡ w.width)
 
 -- what is printed changes no row below the height
 abbrev pub PrintsKeepTheRowsBelow : Type 0
@@ -47,8 +49,8 @@ pub record IsSplit (version lines : ℕ) (old new : Windows) : Type 0 where
   pub height : new.height ≡ min lines 255
   pub selected : new.selected ≡ old.selected
   pub kept : version ≢ 3 → (row column : ℕ) → row ≤ min lines 255 → new.cells.at row column ≡ old.cells.at row column
-  pub past : (row column : ℕ) → min lines 255 < row → new.cells.at row column ≡ 32
-  pub all : version ≡ 3 → (row column : ℕ) → new.cells.at row column ≡ 32
+  pub past : (row column : ℕ) → min lines 255 < row → new.cells.at row column ≡ blank
+  pub all : version ≡ 3 → (row column : ℕ) → new.cells.at row column ≡ blank
 
 abbrev pub SplitsEmptyThePast : Type 0
 SplitsEmptyThePast = (version lines : ℕ) (w : Windows) → IsSplit version lines w (split version lines w)
@@ -70,18 +72,18 @@ pub record IsNearTheGrid (w : Windows) : Type 0 where
   pub row_from : 1 ≤ w.row
   pub row_to : w.row ≤ 256
   pub column_from : 1 ≤ w.column
-  pub column_to : w.column ≤ 81
+  pub column_to : w.column ≤ w.width + 1
 
 -- nothing moves the cursor away from the grid
 pub record KeepsTheCursor : Type 0 where
-  pub first : IsNearTheGrid first_windows
+  pub first : (width : ℕ) → IsNearTheGrid (first_windows width)
   pub split : (version lines : ℕ) (w : Windows) → IsNearTheGrid w → IsNearTheGrid (split version lines w)
   pub selected : (window : Window) (w : Windows) → IsNearTheGrid w → IsNearTheGrid (window_selected window w)
   pub cleared : (w : Windows) → IsNearTheGrid (cleared w)
   pub unsplit : (w : Windows) → IsNearTheGrid (unsplit w)
   pub line_erased : (w : Windows) → IsNearTheGrid w → IsNearTheGrid (line_erased w)
   pub set : (row column : ℕ) (w : Windows) → IsNearTheGrid (cursor_set row column w)
-  pub next_row : (column : ℕ) (w : Windows) → 1 ≤ column → column ≤ 81 → IsNearTheGrid w
+  pub next_row : (column : ℕ) (w : Windows) → 1 ≤ column → column ≤ w.width + 1 → IsNearTheGrid w
       → IsNearTheGrid (next_row column w)
   pub printed : (cs : List ℕ) (w : Windows) → IsNearTheGrid w → IsNearTheGrid (printed cs w)
 
@@ -92,8 +94,8 @@ pub record IsWithoutLastSpaces (text whole : List ℕ) : Type 0 where
   pub ending : (front : List ℕ) → text ≡ front ++ 32 ∷ [] → ⊥
 
 abbrev pub SpacesAtTheEndGo : Type 0
-SpacesAtTheEndGo = (whole : List ℕ) → IsWithoutLastSpaces (without_last_blanks whole) whole
+SpacesAtTheEndGo = (whole : List ℕ) → IsWithoutLastSpaces (without_last is_space whole) whole
 
--- where all is emptied, no row has a text (section 8.7.3)
+-- where all is emptied, no row has a text or a cell (section 8.7.3)
 abbrev pub ClearedRowsHaveNoText : Type 0
-ClearedRowsHaveNoText = (w : Windows) (row : ℕ) → row_text (cleared w) row ≡ []
+ClearedRowsHaveNoText = (w : Windows) (row : ℕ) → (row_text (cleared w) row ≡ []) × (row_cells (cleared w) row ≡ [])

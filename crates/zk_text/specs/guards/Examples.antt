@@ -2,6 +2,7 @@
 -- them.
 use Rattle.std.specs.Prelude.{◌≡◌, ℕ, List, [], ◌∷◌, ◌++◌, Some, None, Ok, Err, replicate, codes, map}
 use Rattle.zk_mem.specs.declared.fault.Fault.TheVariants.{TextPastEnd, NestedAbbreviation}
+use Rattle.zk_mem.specs.Fresh.{plain_setup}
 use Rattle.zk_mem.specs.Map.{MemoryMap}
 use Rattle.zk_text.specs.declared.alphabet.Row.TheVariants.{A0, A1, A2}
 use Rattle.zk_text.specs.declared.pieces.Piece.TheVariants.{Letter, Code, Abbreviation}
@@ -17,11 +18,11 @@ use Rattle.zk_text.specs.Words.{z_characters}
 
 -- memory of a version with these bytes, whose header names no tables
 abbrev pub memory_of : ℕ → List ℕ → MemoryMap
-memory_of version bytes = record { version = version; static_base = 0; bytes = bytes; file = []; undo_states = 0 }
+memory_of version bytes = record { version = version; static_base = 0; bytes = bytes; file = []; setup = plain_setup 0 }
 
 -- the same with this file, whose header may name tables
 abbrev pub memory_by : List ℕ → List ℕ → MemoryMap
-memory_by file bytes = record { version = 5; static_base = 0; bytes = bytes; file = file; undo_states = 0 }
+memory_by file bytes = record { version = 5; static_base = 0; bytes = bytes; file = file; setup = plain_setup 0 }
 
 -- ---- alphabets (sections 3.2 and 3.5)
 

@@ -10,9 +10,9 @@ invariant_of-result c =
     let file = c.story.inside.bytes.items in
     let header : c.header_at_front-header.result ≡ header_of file = search rules in
     let bytes : c.set_fields.new.bytes.items ≡ with_fields c.header_at_front-header.result.version
-    c.args.setup.undo_states file = search rules in
+    c.args.setup file = search rules in
     let word : c.header_at_front-header.result.static_base < 65536 = omega arith in
     whole_start file c.set_fields.new.bytes.items c.header_at_front-header.result
-    c.header_at_front-header.result.version c.args.setup.undo_states c.min-readable.result
+    c.header_at_front-header.result.version c.args.setup c.min-readable.result
     (none_bounds file c.story.invariant) header word bytes
     (c.min-readable.ensures ∙ ap (λ (n : ℕ). min n 65536) (c.len.ensures ∙ c.set_fields.new.bytes.ok.0))

@@ -41,5 +41,5 @@ returns-clause-story c =
     let turned = c.turn.ensures.story in (
       settled.0 ∙ turned.0 ∙ ap (λ (x : MemoryMap). x.file) c.reset.ensures,
       settled.1 ∙ turned.1
-          ∙ ap (λ (x : MemoryMap). x.undo_states) c.reset.ensures,
+          ∙ ap (λ (x : MemoryMap). x.setup) c.reset.ensures,
     )

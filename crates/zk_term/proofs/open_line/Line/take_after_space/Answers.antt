@@ -1,4 +1,4 @@
-use Rattle.std.proofs.Common.{refl, [], ◌∷◌, ◌++◌, ◌∙◌, ap, inl, inr, sym, ◌-◌, ◌≡◌, false, arith}
+use Rattle.std.proofs.Common.{refl, [], ◌∷◌, ◌++◌, ◌∙◌, ap, ◌-◌, ◌≡◌, false, arith}
 use Rattle.std.proofs.lemmas.Bool.Decides.{nat_tests}
 use Rattle.zk_term.specs.declared.open_line.Line.{Line}
 use Rattle.zk_term.specs.Wrapping.{columns, is_space}

@@ -12,10 +12,10 @@ returns c =
     let s = c.self.inside in
     let from = c.if-version-eq3.from in
     let left = c.empty.new.cells.items in
-    let all = emptied_all s.cells.items left from (s.height * 80) (omega arith) c.empty.ensures.value
+    let all = emptied_all s.cells.items left from (s.height * 255) (omega arith) c.empty.ensures.value
     c.self.invariant.blank in
     let grid : cells_of left ≡ emptied (past c.args.version c.args.height) (cells_of s.cells.items) =
-    cells_of-emptied s.cells.items left from 20400 (past c.args.version c.args.height) all
+    cells_of-emptied s.cells.items left from 65025 (past c.args.version c.args.height) all
     (λ r q place. elim c.if-version-eq3.branch [
       | then-version-eq3 w ↦ past_all c.args.version c.args.height from r q w.if-version-eq3.true w.from-is place
       | else-version-eq3 w ↦ past_some c.args.version c.args.height from r q w.if-version-eq3.false w.from-is place

@@ -14,6 +14,6 @@ returns c =
     let i = c.self.invariant in
     let new = c.empty_shown.new.cells.items in
     let empty : cells_of new ≡ no_cells = cells_of-all_emptied s.cells.items new
-    (emptied_all s.cells.items new 0 (s.height * 80) (omega arith) c.empty_shown.ensures.value i.blank) in
+    (emptied_all s.cells.items new 0 (s.height * 255) (omega arith) c.empty_shown.ensures.value i.blank) in
     rw (c.home.ensures, empty) (ap (λ (w : Windows). record (cleared w) { height = 0; selected = Lower })
     (c.self.view_is ∙ c.keep_if_lower.ensures))
