@@ -400,6 +400,13 @@ impl Memory {
         self.header.version
     }
 
+    /// What the story is told of its interpreter.
+    pub fn setup(&self) -> Setup
+        ensures { result ≡ self.now.setup }
+    {
+        self.setup
+    }
+
     /// What the header of the story's file says, whatever was written over it.
     pub fn header(&self) -> Header
         ensures { result ≡ header_of self.now.file }
