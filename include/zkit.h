@@ -56,6 +56,11 @@ typedef struct zkit zkit;
 #define ZKIT_UNDO 16
 #define ZKIT_STEPS 10000000
 
+/* The default width of the screen, and the least and the most. */
+#define ZKIT_COLUMNS 80
+#define ZKIT_LEAST_COLUMNS 20
+#define ZKIT_MOST_COLUMNS 255
+
 /* The default room: the story pauses when this many bytes of text wait. */
 #define ZKIT_ROOM 1048576
 
@@ -76,12 +81,15 @@ typedef struct zkit_options {
     uint32_t room;   /* the story pauses when this many bytes of text wait: 1 to 2,147,483,647 */
     uint32_t upper;  /* if not 0, the text includes the status line and the upper window, on lines of their own, before
                         each read. Leave it 0 if you draw them yourself, with zkit_window_of and zkit_status_line */
-    uint32_t styles; /* if not 0, the library keeps the style of the text for zkit_next_run */
+    uint32_t styles; /* if not 0, the library keeps the style of the text for zkit_next_run, and the story is told that
+                        there is bold, italic and fixed-pitch text */
     uint32_t keys;   /* if not 0, zkit_character takes keys too, such as the cursor keys: ZKIT_KEY_UP .. */
+    uint32_t columns; /* how many characters fit on a line of the screen: 20 to 255. The story is told, and the rows of
+                         the upper window have this width */
 } zkit_options;
 
 /* Sets each field within `options->size` to the value that zkit_open uses without options: seed 1, the limits above,
- * no upper window, no styles and no keys. If the size does not include all fields up to `upper`, sets none. */
+ * no upper window, no styles, no keys and 80 columns. If the size does not include all fields up to `upper`, sets none. */
 void zkit_defaults(zkit_options *options);
 
 /* Why zkit_open and zkit_open_snapshot open nothing. */
@@ -387,7 +395,7 @@ zkit *zkit_open_snapshot(const uint8_t *story, size_t length, const uint8_t *sna
 
 /* ---- the screen's upper part */
 
-/* The upper window: a grid of characters, 80 columns wide, above the text. */
+/* The upper window: a grid of characters above the text, as wide as the option `columns` says. */
 typedef struct zkit_window {
     size_t size;       /* sizeof (zkit_window) */
     uint32_t height;   /* how many rows are shown: 0 to 255 */
@@ -395,19 +403,29 @@ typedef struct zkit_window {
                           greater than height, the story took rows away again before it reads: a box drawn over the
                           text */
     uint32_t row;      /* the cursor's row, from 1 on; 256 is past the last row */
-    uint32_t column;   /* the cursor's column, from 1 on; 81 is past the last column */
+    uint32_t column;   /* the cursor's column, from 1 on; the one after the width is past the last column */
     uint32_t selected; /* 1 if the upper window is selected, else 0 */
+    uint32_t width;    /* how many columns its rows have: 20 to 255. A game from a snapshot keeps its width */
 } zkit_window;
 
 /* Describes the upper window. If the size does not include all fields up to `selected`, sets none. */
 void zkit_window_of(const zkit *game, zkit_window *window);
 
 /* Puts the text of a row of the upper window, from 1 on, at the front of a buffer, as UTF-8 without trailing spaces, or
- * as much of it as fits; returns how many bytes, at most 240. A row that is not shown has no text. */
+ * as much of it as fits; returns how many bytes, at most 765. A row that is not shown has no text. */
 size_t zkit_row(const zkit *game, uint32_t row, uint8_t *buffer, size_t length);
 
 /* The same for a row of the tallest grid since the last answer to a read. */
 size_t zkit_tallest_row(const zkit *game, uint32_t row, uint8_t *buffer, size_t length);
+
+/* Puts the styles of the cells of a row of the upper window, from 1 on, at the front of a buffer, a byte for each, or as
+ * many as fit; returns how many, at most the width. A style is the sum of ZKIT_REVERSE .. ZKIT_FIXED, as for a run, but
+ * all of the upper window is shown with a fixed pitch anyway. Cells after the last one told are empty. A row may have
+ * more cells here than characters in zkit_row: spaces in reverse are seen. */
+size_t zkit_row_styles(const zkit *game, uint32_t row, uint8_t *buffer, size_t length);
+
+/* The same for a row of the tallest grid since the last answer to a read. */
+size_t zkit_tallest_row_styles(const zkit *game, uint32_t row, uint8_t *buffer, size_t length);
 
 /* Gives the upper window this many rows, 255 at most, as the story's own `split_window` would.
  *

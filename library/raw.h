@@ -15,7 +15,7 @@ struct zk_handle {
 };
 
 uint32_t zk_open(struct zk_handle *game, const uint8_t *story, size_t length, uint64_t seed, uint32_t frames,
-                 uint32_t words, uint32_t undo, uint32_t steps, uint32_t upper);
+                 uint32_t words, uint32_t undo, uint32_t steps, uint32_t upper, uint32_t columns, uint32_t styles);
 void zk_close(struct zk_handle *game);
 /* steps: at most so many instructions; room: pauses where so many bytes of text wait */
 uint32_t zk_turn(struct zk_handle *game, uint32_t steps, uint32_t room);
@@ -59,11 +59,15 @@ struct zk_window {
     uint32_t row;
     uint32_t column;
     uint32_t selected;
+    uint32_t width;
 };
 void zk_window(struct zk_handle *game, struct zk_window *window);
 uint32_t zk_split(struct zk_handle *game, uint32_t rows);
 size_t zk_row(struct zk_handle *game, uint32_t row, uint8_t *buffer, size_t length);
 size_t zk_tallest_row(struct zk_handle *game, uint32_t row, uint8_t *buffer, size_t length);
+/* a style for each cell */
+size_t zk_row_styles(struct zk_handle *game, uint32_t row, uint8_t *buffer, size_t length);
+size_t zk_tallest_row_styles(struct zk_handle *game, uint32_t row, uint8_t *buffer, size_t length);
 /* the figures of a status line */
 struct zk_figures {
     uint32_t kind;

@@ -58,7 +58,7 @@ uint32_t zkit_version(void) {
 #define END(type, field) (offsetof(type, field) + sizeof((type *)NULL)->field)
 
 static const zkit_options default_options = {
-    sizeof(zkit_options), 1, ZKIT_FRAMES, ZKIT_WORDS, ZKIT_UNDO, ZKIT_STEPS, ZKIT_ROOM, 0, 0, 0,
+    sizeof(zkit_options), 1, ZKIT_FRAMES, ZKIT_WORDS, ZKIT_UNDO, ZKIT_STEPS, ZKIT_ROOM, 0, 0, 0, ZKIT_COLUMNS,
 };
 
 static int has_options(const zkit_options *options) {
@@ -78,6 +78,8 @@ static void set_options(zkit_options *options, const zkit_options *others, size_
         options->styles = others->styles;
     if (size >= END(zkit_options, keys))
         options->keys = others->keys;
+    if (size >= END(zkit_options, columns))
+        options->columns = others->columns;
 }
 
 void zkit_defaults(zkit_options *options) {
@@ -130,7 +132,7 @@ zkit *zkit_open(const uint8_t *story, size_t length, const zkit_options *options
     uint32_t refused = ZKIT_BAD_LIMIT;
     if (has_room(&whole))
         refused = zk_open(&play, bytes_at(story), length, whole.seed, whole.frames, whole.words, whole.undo,
-                          whole.steps, whole.upper);
+                          whole.steps, whole.upper, whole.columns, whole.styles);
     return game_with(&play, refused, &whole, reason);
 }
 
@@ -277,7 +279,7 @@ uint32_t zkit_split(zkit *game, uint32_t rows) {
 }
 
 void zkit_window_of(const zkit *game, zkit_window *window) {
-    struct zk_window told = {0, 0, 0, 0, 0};
+    struct zk_window told = {0, 0, 0, 0, 0, 0};
     if (window->size < END(zkit_window, selected))
         return;
     zk_window(play_of(game), &told);
@@ -286,6 +288,8 @@ void zkit_window_of(const zkit *game, zkit_window *window) {
     window->row = told.row;
     window->column = told.column;
     window->selected = told.selected;
+    if (window->size >= END(zkit_window, width))
+        window->width = told.width;
 }
 
 size_t zkit_row(const zkit *game, uint32_t row, uint8_t *buffer, size_t length) {
@@ -294,6 +298,14 @@ size_t zkit_row(const zkit *game, uint32_t row, uint8_t *buffer, size_t length) 
 
 size_t zkit_tallest_row(const zkit *game, uint32_t row, uint8_t *buffer, size_t length) {
     return zk_tallest_row(play_of(game), row, buffer_at(buffer), length);
+}
+
+size_t zkit_row_styles(const zkit *game, uint32_t row, uint8_t *buffer, size_t length) {
+    return zk_row_styles(play_of(game), row, buffer_at(buffer), length);
+}
+
+size_t zkit_tallest_row_styles(const zkit *game, uint32_t row, uint8_t *buffer, size_t length) {
+    return zk_tallest_row_styles(play_of(game), row, buffer_at(buffer), length);
 }
 
 void zkit_status_line(const zkit *game, zkit_figures *figures) {

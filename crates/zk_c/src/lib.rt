@@ -6,14 +6,14 @@ ghost use Rattle.std.specs.Prelude.{◌≡◌, ◌∷◌, ◌==◌, [], List, �
 ghost use Rattle.zk_blorb.specs.Blorb.{story_of};
 ghost use Rattle.zk_blorb.specs.Looks.{looks_of, looks_text};
 ghost use Rattle.zk_mem.specs.Header.{header_of};
-ghost use Rattle.zk_term.specs.Windows.{row_text, tallest_row_text};
+ghost use Rattle.zk_term.specs.Windows.{row_cells, row_text, tallest_row_cells, tallest_row_text};
 ghost use Rattle.zk_vm.specs.Sessions.{with_grid_forgotten, with_height};
 ghost use Rattle.zk_vm.specs.Answers.Answer.{Typed, GameKept, File};
 ghost use Rattle.zk_vm.specs.Plays.{codes_read};
 ghost use Rattle.zk_host.specs.Texts.{IsPutInFront, IsTaken};
 ghost use Rattle.zk_host.specs.Calls.{IsStatus, awaited, character_read, character_refused, line_refused};
 ghost use Rattle.zk_host.specs.Calls.{done_unless, longest_snapshot, restore_refused, save_refused, split_refused};
-ghost use Rattle.zk_host.specs.Drawing.{longest_line, row_bytes, row_number, window_of};
+ghost use Rattle.zk_host.specs.Drawing.{longest_line, row_bytes, row_number, row_styles, window_of};
 ghost use Rattle.zk_host.specs.Files.{IsStoryPut};
 ghost use Rattle.zk_host.specs.Listings.{listing_numbered};
 ghost use Rattle.zk_host.specs.Marks.{run_of, run_told, taken_from, with_styles};
@@ -56,7 +56,8 @@ macro_rules! on_play {
 }
 
 /// Opens a story at its start, in place of one that the handle may have: `Machine::start` of `zk_vm`. Answers 0, or why
-/// it is not opened: 1 to 6 are the numbers of `OpenError`, 7 a limit out of its range. Then the handle is as it was.
+/// it is not opened: 1 to 6 are the numbers of `OpenError`, 7 a limit out of its range. Then the handle is as it was. The screen
+/// has so many columns, and unless `styles` is 0 the story is told that there is bold and italic text.
 #[unsafe(no_mangle)]
 pub extern "C" fn zk_open(
     alloc: Global,
@@ -68,11 +69,13 @@ pub extern "C" fn zk_open(
     undo: u32,
     steps: u32,
     upper: u32,
+    columns: u32,
+    styles: u32,
 ) -> u32
     ensures { IsOpened game.old.play game.new.play story.now seed
-        (limits_said frames words undo steps) (view_if upper) result }
+        (limits_said frames words undo steps columns styles) (view_if upper) result }
 {
-    match limits_said(frames, words, undo, steps) {
+    match limits_said(frames, words, undo, steps, columns, styles) {
         None => BAD_LIMIT,
         Some(limits) => match Play::open(alloc, story, seed, limits, view_if(upper)) {
             Ok(play) => {
@@ -245,9 +248,9 @@ pub extern "C" fn zk_open_snapshot(
     steps: u32,
 ) -> u32
     ensures { IsOpenedAgain game.old.play game.new.play story.now snapshot.now
-        (limits_said frames words undo steps) result }
+        (limits_said frames words undo steps 80 0) result }
 {
-    match limits_said(frames, words, undo, steps) {
+    match limits_said(frames, words, undo, steps, 80, 0) {
         None => BAD_LIMIT,
         Some(most) => match Play::open_snapshot(alloc, story, snapshot, most) {
             Ok(play) => {
@@ -380,6 +383,45 @@ pub extern "C" fn zk_tallest_row(
 {
     put_front(
         on_play!(alloc, game, 0, play => play.tallest_row(row)).as_slice(),
+        buffer,
+    )
+}
+
+/// Puts the text styles of the cells of a row of the upper window, from 1 on, at the front of a buffer, as many of them
+/// as there is room for: a byte each, up to the last cell that is not empty. Answers how many.
+#[unsafe(no_mangle)]
+pub extern "C" fn zk_row_styles(
+    alloc: Global,
+    game: &mut Zkit,
+    row: u32,
+    buffer: &mut [u8],
+) -> usize
+    ensures { OnPlay game.old.play game.new.play (λ old new. (new ≡ old) × IsPutInFront
+        (row_styles (row_cells old.machine.state.game.windows) (row_number row)) buffer.old
+        buffer.new result)
+        ((result ≡ 0) × (buffer.new ≡ buffer.old)) }
+{
+    put_front(
+        on_play!(alloc, game, 0, play => play.row_styles(row)).as_slice(),
+        buffer,
+    )
+}
+
+/// The same for a row of the tallest grid since the last answer to a read.
+#[unsafe(no_mangle)]
+pub extern "C" fn zk_tallest_row_styles(
+    alloc: Global,
+    game: &mut Zkit,
+    row: u32,
+    buffer: &mut [u8],
+) -> usize
+    ensures { OnPlay game.old.play game.new.play (λ old new. (new ≡ old) × IsPutInFront
+        (row_styles (tallest_row_cells old.machine.state.game.windows) (row_number row)) buffer.old
+        buffer.new result)
+        ((result ≡ 0) × (buffer.new ≡ buffer.old)) }
+{
+    put_front(
+        on_play!(alloc, game, 0, play => play.tallest_row_styles(row)).as_slice(),
         buffer,
     )
 }

@@ -28,7 +28,7 @@ use Rattle.zk_host.specs.declared.drawing.StatusFigures.{StatusFigures}
 use Rattle.zk_host.specs.Collecting.{Collects, has_no_room, is_lost, no_text, nothing_collected, wants_pause}
 use Rattle.zk_host.specs.Drawing.{HasStatus, figures_or_none}
 use Rattle.zk_host.specs.Names.{HasName}
-use Rattle.zk_mem.specs.Fresh.{fresh}
+use Rattle.zk_mem.specs.Fresh.{fresh, plain_setup}
 use Rattle.zk_mem.specs.Map.{MemoryMap}
 use Rattle.zk_mem.specs.Story.{refusal}
 use Rattle.zk_mem.specs.declared.story.OpenError.TheVariants.{OutOfMemory}
@@ -228,7 +228,7 @@ pub record IsStatus (old new : Play) (f : StatusFigures) : Type 0 where
 
 -- a story's file as it is before its first instruction, with 16 states to go back to
 abbrev pub file_of : Play → MemoryMap
-file_of p = fresh p.machine.state.game.memory.file 16
+file_of p = fresh p.machine.state.game.memory.file (plain_setup 16)
 
 -- a play without a listing
 abbrev pub with_none_listed : Play → Play

@@ -1,11 +1,12 @@
 -- What a host draws beside the text (Standard, sections 8.2, 8.6 and 8.7).
 use Rattle.std.specs.Prelude.{◌≡◌, ◌⊎◌, ◌≢◌, ◌+◌, ◌-◌, ℕ, ℤ, pos, Bool, ◌&&◌, List, [], nat_le, nat_lt, Option, Some}
-use Rattle.std.specs.Prelude.{None, Result, Ok, Err, if◌then◌else◌, encode_utf8_all}
+use Rattle.std.specs.Prelude.{None, Result, Ok, Err, if◌then◌else◌, encode_utf8_all, map}
 use Rattle.std.specs.Int.{cast_signed, w16}
 use Rattle.zk_mem.specs.declared.fault.Fault.{Fault}
 use Rattle.zk_mem.specs.Map.{MemoryMap, byte_at}
 use Rattle.zk_mem.specs.Results.{◌>>=◌}
 use Rattle.zk_term.specs.Windows.{Windows, tallest_height}
+use Rattle.zk_term.specs.declared.windows.Cell.{Cell}
 use Rattle.zk_term.specs.declared.windows.Window.{Window}
 use Rattle.zk_term.specs.declared.windows.Window.TheVariants.{Lower, Upper}
 use Rattle.zk_step.specs.declared.state.ending.Event.{Event}
@@ -13,6 +14,7 @@ use Rattle.zk_step.specs.declared.state.ending.Event.TheVariants.{Line, Char, Sa
 use Rattle.zk_step.specs.declared.output.status.StatusLine.{StatusLine}
 use Rattle.zk_step.specs.Status.{IsLineOf, status_units}
 use Rattle.zk_step.specs.TextBuffers.{is_filled}
+use Rattle.zk_host.specs.Marks.{style_mark}
 use Rattle.zk_host.specs.declared.drawing.StatusFigures.{StatusFigures}
 use Rattle.zk_host.specs.declared.drawing.WindowFigures.{WindowFigures}
 
@@ -29,6 +31,7 @@ window_of w = record {
   row = w.row;
   column = w.column;
   selected = selected_number w.selected;
+  width = w.width;
 }
 
 -- rows are numbered from 1 to 255
@@ -39,6 +42,15 @@ row_number row = if nat_le 1 row && nat_le row 255 then Some row else None
 abbrev pub row_bytes : (ℕ → List ℕ) → Option ℕ → List ℕ
 row_bytes text None = []
 row_bytes text (Some row) = encode_utf8_all (text row)
+
+-- the style of a cell, by the numbers that set it
+abbrev pub cell_mark : Cell → ℕ
+cell_mark c = style_mark c.style
+
+-- the styles of a row's cells; there are none off the grid
+abbrev pub row_styles : (ℕ → List Cell) → Option ℕ → List ℕ
+row_styles cells None = []
+row_styles cells (Some row) = map cell_mark (cells row)
 
 -- ---- the status line
 

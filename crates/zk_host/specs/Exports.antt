@@ -1,5 +1,5 @@
 -- What the exported functions do to the play that a handle has.
-use Rattle.std.specs.Prelude.{◌≡◌, ◌≤◌, ◌<◌, ℕ, List, length, drop, ◌++◌, ◌==◌, if◌then◌else◌, Option, Some, None}
+use Rattle.std.specs.Prelude.{◌≡◌, ◌≤◌, ◌<◌, ℕ, List, length, drop, not, ◌++◌, ◌==◌, if◌then◌else◌, Option, Some, None}
 use Rattle.std.specs.Prelude.{Result, Ok, Err}
 use Rattle.zk_mem.specs.declared.story.OpenError.{OpenError}
 use Rattle.zk_mem.specs.Story.{refusal, refusal_number}
@@ -37,15 +37,22 @@ OnPlay (Some old) None Does Closed = ⊥
 abbrev pub view_if : ℕ → View
 view_if upper = if upper == 0 then Plain else Upper
 
--- the limits that numbers say
-abbrev pub limits_said : ℕ → ℕ → ℕ → ℕ → Limits
-limits_said frames words undo steps = record { frames = frames; words = words; undo = undo; steps = steps }
+-- the limits that numbers say; a screen has styles unless the last is 0
+abbrev pub limits_said : ℕ → ℕ → ℕ → ℕ → ℕ → ℕ → Limits
+limits_said frames words undo steps columns styles = record {
+  frames = frames;
+  words = words;
+  undo = undo;
+  steps = steps;
+  screen = record { columns = columns; styles = not (styles == 0) };
+}
 
 -- numbers say limits in their ranges
 pub record AreLimits (l : Limits) : Type 0 where
   pub in_range : AreInRange l
   pub frames_fit : l.frames ≤ 65535
   pub words_fit : l.words ≤ 65535
+  pub columns_fit : l.screen.columns ≤ 255
 
 -- a handle has a play of a story at its start, or is as it was, and a number says why
 pub data IsOpened (old new : Option Play) (story : List ℕ) (seed : ℕ) (limits : Limits) (view : View) : ℕ → Type 0 where

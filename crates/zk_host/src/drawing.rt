@@ -1,14 +1,16 @@
 // What a host draws beside the text: the upper window, and the status line of version 3.
 
-ghost use Rattle.std.specs.Prelude.{◌≡◌, ◌≤◌, encode_utf8_all, length};
+ghost use Rattle.std.specs.Prelude.{◌≡◌, ◌≤◌, encode_utf8_all, length, map};
+ghost use Rattle.zk_term.specs.Windows.{character_of};
 ghost use Rattle.zk_host.specs.Drawing.{HasStatus, figures_of, figures_or_none, line_room, line_room_early};
-ghost use Rattle.zk_host.specs.Drawing.{line_room_later, room_or_none, row_number, window_of};
+ghost use Rattle.zk_host.specs.Drawing.{cell_mark, line_room_later, room_or_none, row_number, window_of};
 
+use crate::marks::style_mark;
 use arrayvec::ArrayVec;
 use zk_mem::fault::Fault;
 use zk_mem::memory::Memory;
 use zk_step::output::status::{StatusLine, status_line};
-use zk_term::windows::{Window, Windows};
+use zk_term::windows::{Cell, Window, Windows};
 
 /// How the upper window stands.
 #[repr(C)]
@@ -19,6 +21,7 @@ pub struct WindowFigures {
     pub row: u32,
     pub column: u32,
     pub selected: u32,
+    pub width: u32,
 }
 
 /// The figures of a status line: none (0), a score and turns (1), or hours and minutes (2).
@@ -45,6 +48,7 @@ pub(crate) fn window_of(windows: &Windows) -> WindowFigures
         row: row as u32,
         column: column as u32,
         selected,
+        width: windows.width() as u32,
     }
 }
 
@@ -60,19 +64,34 @@ pub(crate) fn row_of(row: u32) -> Option<u8>
 }
 
 /// The UTF-8 of the characters of a row.
-pub(crate) fn utf8_of(characters: &[char]) -> ArrayVec<u8, 320>
-    requires { length characters.now ≤ 80 }
-    ensures { result.items ≡ encode_utf8_all characters.now }
+pub(crate) fn utf8_of(cells: &[Cell]) -> ArrayVec<u8, 1020>
+    requires { length cells.now ≤ 255 }
+    ensures { result.items ≡ encode_utf8_all (map character_of cells.now) }
 {
     let mut bytes = ArrayVec::new();
-    for c in characters {
+    for cell in cells {
         let mut buffer = [0u8; 4];
-        match bytes.try_extend_from_slice(c.encode_utf8(&mut buffer).as_bytes()) {
+        match bytes.try_extend_from_slice(cell.character.encode_utf8(&mut buffer).as_bytes()) {
             Ok(()) => {}
             Err(_) => unreachable!(),
         }
     }
     bytes
+}
+
+/// The text styles of the cells of a row, each as the sum of the numbers that set it.
+pub(crate) fn styles_of(cells: &[Cell]) -> ArrayVec<u8, 255>
+    requires { length cells.now ≤ 255 }
+    ensures { result.items ≡ map cell_mark cells.now }
+{
+    let mut styles = ArrayVec::new();
+    for cell in cells {
+        match styles.try_push(style_mark(cell.style)) {
+            Ok(()) => {}
+            Err(_) => unreachable!(),
+        }
+    }
+    styles
 }
 
 /// The figures of a status line.

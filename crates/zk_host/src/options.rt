@@ -4,15 +4,25 @@ ghost use Rattle.std.specs.Prelude.{◌≡◌, ◌↔◌, None, IfSome, IsTrue};
 ghost use Rattle.zk_host.specs.Exports.{AreLimits, limits_said, view_if};
 ghost use Rattle.zk_host.specs.Within.{AreWithin};
 
+use zk_mem::memory::ScreenSetup;
 use zk_step::state::game_state::View;
 use zk_vm::limits::Limits;
 
-/// The limits that numbers say, where each lies in its range.
-pub fn limits_said(frames: u32, words: u32, undo: u32, steps: u32) -> Option<Limits>
-    ensures said { IfSome result (λ l. (l ≡ limits_said frames words undo steps) × AreLimits l) }
-    ensures none { result ≡ None → AreLimits (limits_said frames words undo steps) → ⊥ }
+/// The limits that numbers say, where each lies in its range: frames, words, states to go back to, steps, the columns
+/// of the screen, and whether it has styles.
+pub fn limits_said(
+    frames: u32,
+    words: u32,
+    undo: u32,
+    steps: u32,
+    columns: u32,
+    styles: u32,
+) -> Option<Limits>
+    ensures said { IfSome result
+        (λ l. (l ≡ limits_said frames words undo steps columns styles) × AreLimits l) }
+    ensures none { result ≡ None → AreLimits (limits_said frames words undo steps columns styles) → ⊥ }
 {
-    if frames > 65_535 || words > 65_535 || undo > 64 {
+    if frames > 65_535 || words > 65_535 || undo > 64 || columns > 255 {
         return None;
     }
     let limits = Limits {
@@ -20,6 +30,10 @@ pub fn limits_said(frames: u32, words: u32, undo: u32, steps: u32) -> Option<Lim
         words: words as u16,
         undo: undo as u8,
         steps,
+        screen: ScreenSetup {
+            columns: columns as u8,
+            styles: styles != 0,
+        },
     };
     if limits.check() { Some(limits) } else { None }
 }

@@ -4,12 +4,12 @@ ghost use Rattle.std.specs.Prelude.{◌≡◌, ◌≤◌, ◌⊎◌, IfErr, IfOk
 ghost use Rattle.zk_vm.specs.Answers.Answer.{Typed, GameKept, File};
 ghost use Rattle.zk_vm.specs.Bounds.{AreInRange};
 ghost use Rattle.zk_vm.specs.Plays.{codes_read, image_of};
-ghost use Rattle.zk_mem.specs.Fresh.{fresh};
+ghost use Rattle.zk_mem.specs.Fresh.{fresh, plain_setup};
 ghost use Rattle.zk_mem.specs.Header.{header_of};
 ghost use Rattle.zk_mem.specs.Story.{refusal};
-ghost use Rattle.zk_term.specs.Windows.{row_text, tallest_row_text};
+ghost use Rattle.zk_term.specs.Windows.{row_cells, row_text, tallest_row_cells, tallest_row_text};
 ghost use Rattle.zk_vm.specs.Sessions.{with_grid_forgotten, with_height};
-ghost use Rattle.zk_host.specs.Drawing.{longest_line, row_bytes, row_number, window_of};
+ghost use Rattle.zk_host.specs.Drawing.{longest_line, row_bytes, row_number, row_styles, window_of};
 ghost use Rattle.zk_host.specs.Listings.{IsListing, IsUnlisted};
 ghost use Rattle.zk_host.specs.Marks.{run_of, run_told, taken_from, with_styles};
 ghost use Rattle.zk_snapshot.specs.Opening.{IsRefused};
@@ -17,7 +17,8 @@ ghost use Rattle.zk_host.specs.Texts.{IsTaken};
 
 use crate::collected::Collected;
 use crate::drawing::{
-    StatusFigures, WindowFigures, figures, line_room, row_of, status_of, utf8_of, window_of,
+    StatusFigures, WindowFigures, figures, line_room, row_of, status_of, styles_of, utf8_of,
+    window_of,
 };
 use crate::listing::{Listing, list};
 use crate::marks::Run;
@@ -28,7 +29,7 @@ use crate::typed::{code_of, codes_of, ending_key, is_line};
 use arrayvec::ArrayVec;
 use std::alloc::{AllocError, Global};
 use zk_mem::header::Header;
-use zk_mem::memory::{Memory, Setup};
+use zk_mem::memory::{Memory, ScreenSetup, Setup};
 use zk_mem::story::{OpenError, Story};
 use zk_snapshot::opening::{SnapshotError, open_snapshot};
 use zk_snapshot::snapshot::{has_snapshot, longest_snapshot, snapshot};
@@ -98,13 +99,14 @@ const UNDO_STATES: u8 = 16;
 
 /// The memory of a story's file at its start.
 fn file_of(alloc: Global, memory: &Memory) -> Result<Memory, AllocError>
-    ensures { IfOk result (λ m. m ≡ fresh memory.now.file 16) }
+    ensures { IfOk result (λ m. m ≡ fresh memory.now.file (plain_setup 16)) }
 {
     let Ok(story) = Story::open(alloc, memory.original()) else {
         return Err(AllocError);
     };
     let setup = Setup {
         undo_states: UNDO_STATES,
+        screen: ScreenSetup::plain(),
     };
     match Memory::start(alloc, story, setup) {
         Ok(memory) => Ok(memory),
@@ -115,9 +117,9 @@ fn file_of(alloc: Global, memory: &Memory) -> Result<Memory, AllocError>
 /// A listing of the file of a story that is played, of so many bytes at most.
 fn list_file(alloc: Global, memory: &Memory, listing: Listing, most: usize) -> Result<Text, Refusal>
     ensures whole { IfOk result
-        (λ text. IsListing listing (fresh memory.now.file 16) text.bytes) }
+        (λ text. IsListing listing (fresh memory.now.file (plain_setup 16)) text.bytes) }
     ensures bounded { IfOk result (λ text. length text.bytes ≤ most) }
-    ensures refused { IfErr result (λ r. IsUnlisted listing (fresh memory.now.file 16) most r) }
+    ensures refused { IfErr result (λ r. IsUnlisted listing (fresh memory.now.file (plain_setup 16)) most r) }
 {
     match file_of(alloc, memory) {
         Ok(memory) => list(alloc, &memory, listing, most),
@@ -466,7 +468,7 @@ impl Play {
     }
 
     /// The UTF-8 of a row of the upper window.
-    pub fn row(&self, row: u32) -> ArrayVec<u8, 320>
+    pub fn row(&self, row: u32) -> ArrayVec<u8, 1020>
         ensures { result.items ≡ row_bytes (row_text self.now.machine.state.game.windows) (row_number row) }
     {
         match row_of(row) {
@@ -476,11 +478,31 @@ impl Play {
     }
 
     /// The UTF-8 of a row of the tallest grid since the last answer to a read.
-    pub fn tallest_row(&self, row: u32) -> ArrayVec<u8, 320>
+    pub fn tallest_row(&self, row: u32) -> ArrayVec<u8, 1020>
         ensures { result.items ≡ row_bytes (tallest_row_text self.now.machine.state.game.windows) (row_number row) }
     {
         match row_of(row) {
             Some(row) => utf8_of(self.machine.machine().windows().tallest_row(row)),
+            None => ArrayVec::new(),
+        }
+    }
+
+    /// The text styles of the cells of a row of the upper window, a number each, up to the last cell that is not empty.
+    pub fn row_styles(&self, row: u32) -> ArrayVec<u8, 255>
+        ensures { result.items ≡ row_styles (row_cells self.now.machine.state.game.windows) (row_number row) }
+    {
+        match row_of(row) {
+            Some(row) => styles_of(self.machine.machine().windows().row_cells(row)),
+            None => ArrayVec::new(),
+        }
+    }
+
+    /// The same for a row of the tallest grid since the last answer to a read.
+    pub fn tallest_row_styles(&self, row: u32) -> ArrayVec<u8, 255>
+        ensures { result.items ≡ row_styles (tallest_row_cells self.now.machine.state.game.windows) (row_number row) }
+    {
+        match row_of(row) {
+            Some(row) => styles_of(self.machine.machine().windows().tallest_row_cells(row)),
             None => ArrayVec::new(),
         }
     }

@@ -1,13 +1,17 @@
 -- Codes that are read back in one way alone.
 use Rattle.std.specs.List.{flat_map}
-use Rattle.std.proofs.Common.{◌≡◌, ℕ, ◌/◌, ◌%◌, ◌*◌, List, [], ◌∷◌, ◌++◌, length, Option, Some, None, refl, ap, arith}
+use Rattle.std.proofs.Common.{◌≡◌, ◌∙◌, ℕ, ◌/◌, ◌%◌, ◌*◌, Bool, true, false, List, [], ◌∷◌, ◌++◌, length, Option, Some}
+use Rattle.std.proofs.Common.{None, refl, ap, sym, arith}
 use Rattle.zk_save.specs.Quetzal.{bytes_2, bytes_4, words_bytes}
-use Rattle.zk_snapshot.specs.Snapshots.{bytes_8, store_bytes, state_bytes}
+use Rattle.zk_term.specs.Styles.{roman, style_set}
+use Rattle.zk_term.specs.declared.style.Style.{Style}
+use Rattle.zk_term.specs.declared.windows.Cell.{Cell}
+use Rattle.zk_snapshot.specs.Snapshots.{bytes_8, cell_bytes, state_bytes, store_bytes, style_byte}
 
-pub cons_head : (x y : ℕ) (a b : List ℕ) → x ∷ a ≡ y ∷ b → x ≡ y
+pub cons_head : {A : Type 0} (x y : A) (a b : List A) → x ∷ a ≡ y ∷ b → x ≡ y
 cons_head x y a b h = cc
 
-pub cons_tail : (x y : ℕ) (a b : List ℕ) → x ∷ a ≡ y ∷ b → a ≡ b
+pub cons_tail : {A : Type 0} (x y : A) (a b : List A) → x ∷ a ≡ y ∷ b → a ≡ b
 cons_tail x y a b h = cc
 
 -- two lists that begin with lists of the same length
@@ -101,17 +105,62 @@ same_words (w ∷ ws) (v ∷ vs) e h =
     joined : (x y : ℕ) (xs ys : List ℕ) → x ≡ y → xs ≡ ys → x ∷ xs ≡ y ∷ ys
     joined x y xs ys e h = cc
 
-pub fours_size : (cs : List ℕ) → length (flat_map bytes_4 cs) ≡ 4 * length cs
-fours_size [] = refl
-fours_size (c ∷ cs) = omega (arith, fours_size cs)
+-- ---- cells
 
-pub same_fours : (ws vs : List ℕ) → length ws ≡ length vs → flat_map bytes_4 ws ≡ flat_map bytes_4 vs → ws ≡ vs
-same_fours [] [] e h = refl
-same_fours [] (v ∷ vs) e h = absurd (omega (arith, e))
-same_fours (w ∷ ws) [] e h = absurd (omega (arith, e))
-same_fours (w ∷ ws) (v ∷ vs) e h =
-    let both = split_same (bytes_4 w) (bytes_4 v) (flat_map bytes_4 ws) (flat_map bytes_4 vs) refl h in
-    joined w v ws vs (same_4 w v both.0) (same_fours ws vs (omega (arith, e)) both.1)
+-- a style is the one that its number sets
+style_back : (a b c d : Bool) → style_set (style_byte (record { reverse = a; bold = b; italic = c; fixed = d })) roman
+    ≡ record { reverse = a; bold = b; italic = c; fixed = d }
+unfolding style_byte
+style_back false false false false = refl
+style_back true false false false = refl
+style_back false true false false = refl
+style_back true true false false = refl
+style_back false false true false = refl
+style_back true false true false = refl
+style_back false true true false = refl
+style_back true true true false = refl
+style_back false false false true = refl
+style_back true false false true = refl
+style_back false true false true = refl
+style_back true true false true = refl
+style_back false false true true = refl
+style_back true false true true = refl
+style_back false true true true = refl
+style_back true true true true = refl
+
+pub same_style : (s t : Style) → style_byte s ≡ style_byte t → s ≡ t
+same_style s t h = sym (style_back s.reverse s.bold s.italic s.fixed) ∙ ap (λ (n : ℕ). style_set n roman) h
+    ∙ style_back t.reverse t.bold t.italic t.fixed
+
+abbrev character_bytes : Cell → List ℕ
+character_bytes c = c.character / 65536 ∷ bytes_2 (c.character % 65536)
+
+pub same_cell : (c d : Cell) → cell_bytes c ≡ cell_bytes d → c ≡ d
+same_cell c d h =
+    let style = same_style c.style d.style (cons_head (style_byte c.style) (style_byte d.style) (character_bytes c)
+    (character_bytes d) h) in
+    let rest = cons_tail (style_byte c.style) (style_byte d.style) (character_bytes c) (character_bytes d) h in
+    let high = cons_head (c.character / 65536) (d.character / 65536) (bytes_2 (c.character % 65536))
+    (bytes_2 (d.character % 65536)) rest in
+    let low = same_2 (c.character % 65536) (d.character % 65536) (cons_tail (c.character / 65536)
+    (d.character / 65536) (bytes_2 (c.character % 65536)) (bytes_2 (d.character % 65536)) rest) in
+    let character : c.character ≡ d.character = omega (arith, high, low) in
+    ap (λ (k : ℕ). made k c.style) character ∙ ap (λ (s : Style). made d.character s) style
   where
-    joined : (x y : ℕ) (xs ys : List ℕ) → x ≡ y → xs ≡ ys → x ∷ xs ≡ y ∷ ys
+    made : ℕ → Style → Cell
+    made k s = record { character = k; style = s }
+
+pub cells_size : (cs : List Cell) → length (flat_map cell_bytes cs) ≡ 4 * length cs
+cells_size [] = refl
+cells_size (c ∷ cs) = omega (arith, cells_size cs)
+
+pub same_cells_of : (ws vs : List Cell) → length ws ≡ length vs → flat_map cell_bytes ws ≡ flat_map cell_bytes vs → ws ≡ vs
+same_cells_of [] [] e h = refl
+same_cells_of [] (v ∷ vs) e h = absurd (omega (arith, e))
+same_cells_of (w ∷ ws) [] e h = absurd (omega (arith, e))
+same_cells_of (w ∷ ws) (v ∷ vs) e h =
+    let both = split_same (cell_bytes w) (cell_bytes v) (flat_map cell_bytes ws) (flat_map cell_bytes vs) refl h in
+    joined w v ws vs (same_cell w v both.0) (same_cells_of ws vs (omega (arith, e)) both.1)
+  where
+    joined : (x y : Cell) (xs ys : List Cell) → x ≡ y → xs ≡ ys → x ∷ xs ≡ y ∷ ys
     joined x y xs ys e h = cc

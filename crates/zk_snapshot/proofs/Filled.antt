@@ -20,21 +20,21 @@ pub byte_fixed : (m n : MemoryMap) (a v : ℕ) → byte_put m a v ≡ Ok n → f
 unfolding byte_put
 byte_fixed m n a v h = put_by m n a v (nat_lt a (readable_end m)) (nat_lt a m.static_base) h
 
-pub fresh_file : (file : List ℕ) (undo : ℕ) → (fresh file undo).file ≡ file
+pub fresh_file : (file : List ℕ) (setup : Setup) → (fresh file setup).file ≡ file
 unfolding fresh
-fresh_file file undo = refl
+fresh_file file setup = refl
 
-pub fresh_undo : (file : List ℕ) (undo : ℕ) → (fresh file undo).undo_states ≡ undo
+pub fresh_setup : (file : List ℕ) (setup : Setup) → (fresh file setup).setup ≡ setup
 unfolding fresh
-fresh_undo file undo = refl
+fresh_setup file setup = refl
 
 pub same_file : (m n : MemoryMap) → fixed_parts n ≡ fixed_parts m → n.file ≡ m.file
 unfolding fixed_parts
 same_file m n e = ap (λ (p : (ℕ × ℕ) × (List ℕ × Setup)). p.1.0) e
 
-pub same_undo : (m n : MemoryMap) → fixed_parts n ≡ fixed_parts m → n.undo_states ≡ m.undo_states
+pub same_setup : (m n : MemoryMap) → fixed_parts n ≡ fixed_parts m → n.setup ≡ m.setup
 unfolding fixed_parts
-same_undo m n e = ap (λ (p : (ℕ × ℕ) × (List ℕ × Setup)). p.1.1) e
+same_setup m n e = ap (λ (p : (ℕ × ℕ) × (List ℕ × Setup)). p.1.1) e
 
 pub same_base : (m n : MemoryMap) → fixed_parts n ≡ fixed_parts m → n.static_base ≡ m.static_base
 unfolding fixed_parts

@@ -23,7 +23,7 @@ put_by true w v h k = k
 put_by false w v h k = h
 
 character_gone : (c : ℕ) (w : Windows) → NothingGone w → NothingGone (character_put c w)
-character_gone c w h = put_by (nat_le w.row w.height && nat_le w.column 80) w _ h h
+character_gone c w h = put_by (nat_le w.row w.height && nat_le w.column w.width) w _ h h
 
 pub put_gone : (c : ℕ) (w : Windows) → NothingGone w → NothingGone (character_printed c w)
 unfolding character_printed
@@ -38,17 +38,18 @@ select_gone Upper w h = h
 homed_gone : (height : ℕ) (w : Windows) → NothingGone w → NothingGone (homed_below height w)
 homed_gone height w h = put_by (nat_lt height w.row) w _ h h
 
-kept_gone : (height : ℕ) → NothingGone (kept_if_lower height first_windows)
+kept_gone : (height width : ℕ) → NothingGone (kept_if_lower height (first_windows width))
 unfolding first_windows
-kept_gone height =
+kept_gone height width =
     let never : nat_lt height 0 ≡ false = grind (arith, nat_tests) in
     rw never (refl, refl)
 
 -- a new window has no row, so none goes
-pub split_gone : (version lines : ℕ) (w : Windows) → w ≡ first_windows → NothingGone (split version lines w)
+pub split_gone : (version lines width : ℕ) (w : Windows) → w ≡ first_windows width → NothingGone (split version lines w)
 unfolding split
-split_gone version lines w e = rw e (homed_gone (min lines 255)
-    (with_height version (min lines 255) (kept_if_lower (min lines 255) first_windows)) (kept_gone (min lines 255)))
+split_gone version lines width w e = rw e (homed_gone (min lines 255)
+    (with_height version (min lines 255) (kept_if_lower (min lines 255) (first_windows width)))
+    (kept_gone (min lines 255) width))
 
 pub gone_is_forgotten : (w : Windows) → NothingGone w → forgotten w ≡ w
 unfolding forgotten

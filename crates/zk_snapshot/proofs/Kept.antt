@@ -8,6 +8,7 @@ use Rattle.zk_save.proofs.Shown.{all_sized}
 use Rattle.zk_save.proofs.Wholes.{same_of}
 use Rattle.zk_state.specs.Frames.{FrameList, bounds_of}
 use Rattle.zk_step.specs.declared.state.ending.Event.{Event}
+use Rattle.zk_vm.specs.Bounds.{setup_of}
 use Rattle.zk_vm.specs.declared.waiting.Waiting.{Waiting}
 use Rattle.zk_vm.specs.Halts.{event_waited}
 use Rattle.zk_vm.specs.Sessions.{Session}
@@ -34,15 +35,15 @@ pub is_kept : (s : Session) (u : UndoStates) → HasSnapshot s
     → bounds_of s.state.game.frames ≡ (s.limits.frames, s.limits.words)
     → OnSome (asking_of s.waiting) (s.stopped ≡ None) → OnSome (asking_of s.waiting) (s.state.due ≡ [])
     → OnSome (asking_of s.waiting) (s.left ≡ None) → OnSome (asking_of s.waiting)
-    (s.state.game.memory.undo_states ≡ s.limits.undo) → IsOfFile s.state.game.memory
+    (s.state.game.memory.setup ≡ setup_of s.limits) → IsOfFile s.state.game.memory
     → IfSome s.waiting (λ w. instr_at s.state.game.memory s.state.pc ≡ Ok w.instruction)
     → s.state.undo ≡ states_in s.state.game.memory.file u → OnSome (asking_of s.waiting)
     (AreOf s.state.game.memory s.state.game.frames u) → s.state.game.memory.static_base ≤ length
     s.state.game.memory.file → IsKept s
-is_kept s u has bounds runs due shown undo of_file fetched states are within = record {
+is_kept s u has bounds runs due shown setup of_file fetched states are within = record {
   has = has;
   bounds = bounds;
-  undo = while_kept s (s.state.game.memory.undo_states ≡ s.limits.undo) has undo;
+  setup = while_kept s (s.state.game.memory.setup ≡ setup_of s.limits) has setup;
   of_file = of_file;
   within = within;
   sized =

@@ -1,7 +1,7 @@
 -- How many bytes a snapshot has at most.
 use Rattle.std.specs.List.{flat_map}
 use Rattle.std.specs.Global.{Vec}
-use Rattle.std.specs.Prelude.{map, nat_le, ◌==◌, if◌then◌else◌, IfOk}
+use Rattle.std.specs.Prelude.{map, nat_le, if◌then◌else◌, IfOk}
 use Rattle.std.proofs.Common.{◌≡◌, ◌≤◌, ◌+◌, ◌-◌, ◌*◌, ℕ, zero, suc, Bool, true, false, List, [], ◌∷◌, length, take}
 use Rattle.std.proofs.Common.{drop, Option, Some, None, Result, Ok, Err, refl, ap, arith, length-append}
 use Rattle.std.proofs.lemmas.Bool.Decides.{nat_tests}
@@ -10,7 +10,9 @@ use Rattle.zk_mem.specs.Header.{header_of}
 use Rattle.zk_save.specs.Quetzal.{bytes_4}
 use Rattle.zk_save.specs.States.{WholeState}
 use Rattle.zk_state.specs.Frames.{FrameList, IsBounded, bounds_of, frames_of}
-use Rattle.zk_term.specs.Windows.{Windows, before_blanks, columns_from, row_text, without_last_blanks}
+use Rattle.zk_term.specs.declared.windows.Cell.{Cell}
+use Rattle.zk_term.specs.Grid.{is_blank}
+use Rattle.zk_term.specs.Windows.{Windows, before_blanks, columns_from, row_cells, without_last}
 use Rattle.zk_step.specs.Streams.{OutputStreams}
 use Rattle.zk_step.specs.declared.output.streams.OpenTable.{OpenTable}
 use Rattle.zk_step.specs.declared.state.ending.Event.{Event}
@@ -28,7 +30,7 @@ use Rattle.zk_snapshot.specs.Snapshots.{generators_bytes, row_bytes, rows_bytes,
 use Rattle.zk_snapshot.specs.Snapshots.{table_bytes, streams_bytes, game_bytes, kept_bytes, states_bytes, fitting}
 use Rattle.zk_snapshot.specs.Snapshots.{head_bytes, body_bytes, snapshot_with, snapshot_of, longest_of}
 use Rattle.zk_snapshot.specs.Sums.{sum_of}
-use Rattle.zk_snapshot.proofs.Codes.{store_size, state_size, fours_size}
+use Rattle.zk_snapshot.proofs.Codes.{store_size, state_size, cells_size}
 use Rattle.zk_snapshot.proofs.Sizes.{flat_reversed, frames_size}
 
 -- ---- the upper window
@@ -38,47 +40,47 @@ unfolding columns_from
 columns_many start zero = refl
 columns_many start (suc n) = omega (arith, columns_many (start + 1) n)
 
-before_long : (c : ℕ) (cs : List ℕ) → length (before_blanks c cs) ≤ 1 + length cs
-before_long c [] = by (c == 32)
+before_long : (c : Cell) (cs : List Cell) → length (before_blanks is_blank c cs) ≤ 1 + length cs
+before_long c [] = by (is_blank c)
   where
     by : (p : Bool) → length (if p then [] else c ∷ []) ≤ 1 + 0
     by true = omega arith
     by false = omega arith
 before_long c (d ∷ ds) = omega arith
 
-blanks_long : (cs : List ℕ) → length (without_last_blanks cs) ≤ length cs
-unfolding without_last_blanks
+blanks_long : (cs : List Cell) → length (without_last is_blank cs) ≤ length cs
+unfolding without_last
 blanks_long [] = omega arith
-blanks_long (c ∷ cs) = omega (arith, before_long c (without_last_blanks cs), blanks_long cs)
+blanks_long (c ∷ cs) = omega (arith, before_long c (without_last is_blank cs), blanks_long cs)
 
-text_long : (w : Windows) (n : ℕ) → length (row_text w n) ≤ 80
-unfolding row_text
-text_long w n =
+cells_long : (w : Windows) (n : ℕ) → length (row_cells w n) ≤ 255
+unfolding row_cells
+cells_long w n =
     omega (
       arith,
-      blanks_long (map (w.cells.at n) (columns_from 1 80)),
-      length-map (columns_from 1 80)
+      blanks_long (map (w.cells.at n) (columns_from 1 255)),
+      length-map (columns_from 1 255)
           (w.cells.at n),
-      columns_many 1 80,
+      columns_many 1 255,
     )
 
-row_long : (text : List ℕ) → length (row_bytes text) ≡ 1 + 4 * length text
+row_long : (cells : List Cell) → length (row_bytes cells) ≡ 1 + 4 * length cells
 unfolding row_bytes
-row_long text = omega (arith, fours_size text)
+row_long cells = omega (arith, cells_size cells)
 
-rows_long : (n : ℕ) (w : Windows) → length (rows_bytes n w) ≤ 321 * n
+rows_long : (n : ℕ) (w : Windows) → length (rows_bytes n w) ≤ 1021 * n
 unfolding rows_bytes
 rows_long zero w = omega arith
 rows_long (suc n) w =
     omega (
       arith,
-      length-append (rows_bytes n w) (row_bytes (row_text w (suc n))),
+      length-append (rows_bytes n w) (row_bytes (row_cells w (suc n))),
       rows_long n w,
-      row_long (row_text w (suc n)),
-      text_long w (suc n),
+      row_long (row_cells w (suc n)),
+      cells_long w (suc n),
     )
 
-windows_long : (w : Windows) → length (windows_bytes w) ≤ 81861
+windows_long : (w : Windows) → length (windows_bytes w) ≤ 260364
 unfolding windows_bytes
 windows_long w = omega (arith, rows_long 255 w)
 
@@ -101,7 +103,7 @@ frames_most : (s : FrameList) → IsBounded s → length (frames_bytes (frames_o
 frames_most s is = omega (arith, frames_size (frames_of s), is.frames, is.words)
 
 game_long : (g : GameState) → IsBounded g.frames → length g.streams.tables ≤ 16
-    → length (game_bytes g) ≤ 81948 + g.memory.static_base + 10 * g.frames.most_frames + 2 * g.frames.most_words
+    → length (game_bytes g) ≤ 260451 + g.memory.static_base + 10 * g.frames.most_frames + 2 * g.frames.most_words
 unfolding game_bytes
 game_long g is few =
     simp length-append (omega (
@@ -128,7 +130,7 @@ unfolding asking_bytes
 asking_long None = omega arith
 asking_long (Some a) = simp length-append (omega (arith, event_long a.event, store_size a.store))
 
-limits_long : (l : Limits) → length (limits_bytes l) ≡ 9
+limits_long : (l : Limits) → length (limits_bytes l) ≡ 11
 unfolding limits_bytes
 limits_long l = refl
 
@@ -192,7 +194,7 @@ fits_newest file ws most = (fit_front file most ws, fit_sum file most ws)
 
 body_long : (states : List WholeState) (s : Session) → IsBounded s.state.game.frames
     → length s.state.game.streams.tables ≤ 16
-    → length (body_bytes states s) ≤ 82004 + s.state.game.memory.static_base + 10
+    → length (body_bytes states s) ≤ 260509 + s.state.game.memory.static_base + 10
     * s.state.game.frames.most_frames + 2 * s.state.game.frames.most_words + length
     (flat_map (kept_bytes s.state.game.memory.file) states)
 unfolding body_bytes

@@ -6,7 +6,7 @@ use Rattle.std.proofs.Common.{add-one, append_assoc}
 use Rattle.std.proofs.lemmas.List.{append-nil, take_all, take_more, flat_map_more}
 use Rattle.std.proofs.lemmas.Option.{slice_get_within, get_or_from_slice_get}
 use Rattle.zk_state.specs.Frames.{Frame}
-use Rattle.zk_term.specs.Windows.{Windows, row_text}
+use Rattle.zk_term.specs.Windows.{Windows, row_cells}
 use Rattle.zk_snapshot.specs.Snapshots.{row_bytes, rows_bytes, frame_bytes}
 
 pub rows_start : (out : List ℕ) (w : Windows) → out ++ rows_bytes 0 w ≡ out
@@ -14,9 +14,9 @@ unfolding rows_bytes
 rows_start out w = append-nil out
 
 pub rows_more : (out : List ℕ) (w : Windows) (n : ℕ) → out ++ rows_bytes n w
-    ++ row_bytes (row_text w (n + 1)) ≡ out ++ rows_bytes (n + 1) w
+    ++ row_bytes (row_cells w (n + 1)) ≡ out ++ rows_bytes (n + 1) w
 unfolding rows_bytes
-rows_more out w n = rw (add-one n) (append_assoc out (rows_bytes n w) (row_bytes (row_text w (suc n))))
+rows_more out w n = rw (add-one n) (append_assoc out (rows_bytes n w) (row_bytes (row_cells w (suc n))))
 
 pub frames_start : (out : List ℕ) (up : List Frame) → out ++ flat_map frame_bytes (take 0 up) ≡ out
 frames_start out up = append-nil out

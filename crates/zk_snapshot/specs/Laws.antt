@@ -7,6 +7,7 @@ use Rattle.zk_save.specs.States.{WholeState}
 use Rattle.zk_state.specs.Frames.{bounds_of}
 use Rattle.zk_term.specs.Windows.{forgotten}
 use Rattle.zk_step.specs.declared.state.game_state.GameState.{GameState}
+use Rattle.zk_vm.specs.Bounds.{setup_of}
 use Rattle.zk_vm.specs.Sessions.{Session}
 use Rattle.zk_snapshot.specs.Opening.{IsOpened}
 use Rattle.zk_snapshot.specs.Snapshots.{HasSnapshot, fitting, kept_bytes, snapshot_of, snapshot_with}
@@ -27,7 +28,7 @@ newest n s = take n s.state.undo
 pub record IsKept (s : Session) : Type 0 where
   pub has : HasSnapshot s
   pub bounds : bounds_of s.state.game.frames ≡ (s.limits.frames, s.limits.words)
-  pub undo : s.state.game.memory.undo_states ≡ s.limits.undo
+  pub setup : s.state.game.memory.setup ≡ setup_of s.limits
   pub of_file : IsOfFile s.state.game.memory
   pub within : s.state.game.memory.static_base ≤ length s.state.game.memory.file
   pub sized : All (λ (w : WholeState). length w.dynamic ≡ s.state.game.memory.static_base) s.state.undo

@@ -6,8 +6,9 @@ use Rattle.zk_mem.specs.Header.{header_of}
 use Rattle.zk_state.specs.Frames.{Frame, frames_of}
 use Rattle.zk_save.specs.Quetzal.{bytes_2, bytes_4, words_bytes}
 use Rattle.zk_save.specs.States.{WholeState, packed_of}
-use Rattle.zk_term.specs.Windows.{Windows, row_text}
+use Rattle.zk_term.specs.Windows.{Windows, row_cells}
 use Rattle.zk_term.specs.declared.style.Style.{Style}
+use Rattle.zk_term.specs.declared.windows.Cell.{Cell}
 use Rattle.zk_term.specs.declared.windows.Window.{Window}
 use Rattle.zk_term.specs.declared.windows.Window.TheVariants.{Lower, Upper as UpperWindow}
 use Rattle.zk_step.specs.declared.state.ending.Event.{Event}
@@ -55,7 +56,7 @@ name_bytes = 90 ∷ 75 ∷ 83 ∷ 78 ∷ []
 
 -- the version of the format
 abbrev pub version_byte : ℕ
-version_byte = 3
+version_byte = 4
 
 -- what a story's file is known by, in 18 bytes: its length, its release, its serial number, its checksum, and the sum
 -- of all its bytes
@@ -65,9 +66,11 @@ story_bytes file = bytes_4 (length file) ++ bytes_2 (header_of file).release ++ 
 
 -- ---- the machine
 
--- limits, in 9 bytes: frames, words, states to go back to, steps
+-- limits, in 11 bytes: frames, words, states to go back to, steps, and of the screen its columns and whether it has
+-- styles
 unfoldable pub limits_bytes : Limits → List ℕ
 limits_bytes l = bytes_2 l.frames ++ bytes_2 l.words ++ l.undo ∷ [] ++ bytes_4 l.steps
+    ++ l.screen.columns ∷ truth_byte l.screen.styles ∷ []
 
 -- where the run stands, in 12 bytes: the program counter, steps, reads
 unfoldable pub place_bytes : Place → List ℕ
@@ -106,20 +109,24 @@ style_byte s = truth_byte s.reverse + 2 * truth_byte s.bold + 4 * truth_byte s.i
 unfoldable pub generators_bytes : Generators → List ℕ
 generators_bytes g = bytes_8 g.free ++ state_bytes g.predictable
 
--- a row: the number of its characters up to the last that is no space, and these, four bytes each
-unfoldable pub row_bytes : List ℕ → List ℕ
-row_bytes text = length text ∷ [] ++ flat_map bytes_4 text
+-- a cell, in four bytes: its text style, and its character in three
+abbrev pub cell_bytes : Cell → List ℕ
+cell_bytes c = style_byte c.style ∷ c.character / 65536 ∷ bytes_2 (c.character % 65536)
+
+-- a row: the number of its cells up to the last that is not empty, and these
+unfoldable pub row_bytes : List Cell → List ℕ
+row_bytes cells = length cells ∷ [] ++ flat_map cell_bytes cells
 
 -- so many rows of the grid, from the first on
 unfoldable pub rows_bytes : ℕ → Windows → List ℕ
 rows_bytes zero w = []
-rows_bytes (suc n) w = rows_bytes n w ++ row_bytes (row_text w (suc n))
+rows_bytes (suc n) w = rows_bytes n w ++ row_bytes (row_cells w (suc n))
 
--- the windows: the upper one's height, the cursor's row and column, the window that is selected, the text style, and
--- all 255 rows
+-- the windows: the upper one's height, how many columns there are, the cursor's row and column, the window that is
+-- selected, the text style, whether the font has a fixed pitch, and all 255 rows
 unfoldable pub windows_bytes : Windows → List ℕ
-windows_bytes w = w.height ∷ [] ++ bytes_2 w.row ++ w.column ∷ [] ++ window_byte w.selected ∷ []
-    ++ style_byte w.style ∷ [] ++ rows_bytes 255 w
+windows_bytes w = w.height ∷ w.width ∷ [] ++ bytes_2 w.row ++ bytes_2 w.column ++ window_byte w.selected ∷ []
+    ++ style_byte w.style ∷ truth_byte w.fixed_font ∷ [] ++ rows_bytes 255 w
 
 -- a frame: the address that it returns to, what takes its result, how many arguments it was given, how many local
 -- variables and words on its evaluation stack it has, and both
@@ -194,6 +201,6 @@ abbrev pub HasSnapshot : Session → Type 0
 HasSnapshot s = AsksForLine s
 
 -- the most bytes of a snapshot within limits, of a story with so many bytes of dynamic memory and with so many bytes of
--- states: 255 rows of 80 characters and 16 tables are among the others
+-- states: 255 rows of 255 cells and 16 tables are among the others
 unfoldable pub longest_of : Limits → (base most : ℕ) → ℕ
-longest_of l base most = 82008 + base + 10 * l.frames + 2 * l.words + most
+longest_of l base most = 260513 + base + 10 * l.frames + 2 * l.words + most

@@ -5,13 +5,13 @@ ghost use Rattle.zk_save.specs.States.{AreOf};
 ghost use Rattle.zk_state.specs.Frames.{bounds_of};
 ghost use Rattle.zk_snapshot.specs.Opening.{head_refusal, refusal_by, IsMade, IsOpened, IsRefused};
 ghost use Rattle.zk_snapshot.specs.Opening.{NothingGone};
-ghost use Rattle.zk_vm.specs.Bounds.{AreInRange};
+ghost use Rattle.zk_vm.specs.Bounds.{AreInRange, setup_of};
 ghost use Rattle.zk_vm.specs.Step.{is_read};
 ghost use Rattle.zk_snapshot.specs.Snapshots.{story_bytes};
 
 use crate::reading::{
     Front, GameFront, Reader, fill_frames, fill_states, fill_windows, front_in, game_front_in,
-    put_bytes,
+    limits_in, put_bytes,
 };
 use crate::snapshot::whole_snapshot;
 use crate::writing::put_story;
@@ -24,6 +24,7 @@ use zk_save::undo::Undo;
 use zk_state::frames::Frames;
 use zk_step::state::game_state::GameState;
 use zk_term::windows::Windows;
+use zk_vm::limits::Limits;
 use zk_vm::machine::{MOST_READS, Machine};
 
 /// Why bytes are opened as no snapshot, in the order in which it is looked for; lack of memory may come at any
@@ -78,7 +79,7 @@ fn head_refusal(
     if part(bytes, 0, 4) != [90, 75, 83, 78].as_slice() {
         return Ok(Some(SnapshotError::NotASnapshot));
     }
-    if part(bytes, 4, 1) != [3].as_slice() {
+    if part(bytes, 4, 1) != [4].as_slice() {
         return Ok(Some(SnapshotError::OtherVersion));
     }
     let story = story_of(alloc, memory)?;
@@ -88,28 +89,29 @@ fn head_refusal(
     Ok(None)
 }
 
-/// A machine that is made of the bytes after the first 23, if they are of use. Memory and frames are room for each
-/// state to go back to, and get their own bytes after these.
+/// A machine with these limits that is made of the bytes after them, if they are of use. Memory and frames are room for
+/// each state to go back to, and get their own bytes after these.
 fn machine_in(
     alloc: Global,
     mut memory: Memory,
-    undo_states: u8,
+    limits: Limits,
     bytes: &[u8],
 ) -> Result<Option<Machine>, AllocError>
-    requires { memory.undo_states ≡ undo_states }
+    requires { memory.setup ≡ setup_of limits }
     ensures { IfOk result (λ found. IfSome found
         (λ m. IsMade memory.file m)) }
 {
     let mut reader = Reader::new(bytes);
     let front = front_in(&mut reader);
-    if !front.limits.check() || front.limits.undo != undo_states {
+    if !limits.check() {
         return Ok(None);
     }
-    let mut windows = Windows::new(alloc)?;
-    let mut frames = Frames::new(alloc, front.limits.frames, front.limits.words)?;
-    let mut undo = Undo::new(alloc, undo_states)?;
+    let width = limits.screen.columns;
+    let mut windows = Windows::new(alloc, width)?;
+    let mut frames = Frames::new(alloc, limits.frames, limits.words)?;
+    let mut undo = Undo::new(alloc, limits.undo)?;
     let game_front = game_front_in(&mut reader);
-    fill_windows(&mut reader, &mut windows);
+    fill_windows(&mut reader, &mut windows, width);
     let dynamic = reader.take(memory.dynamic().len());
     let mut frames_reader = reader.again();
     fill_frames(&mut reader, &mut frames);
@@ -117,7 +119,7 @@ fn machine_in(
     put_bytes(&mut memory, dynamic);
     fill_frames(&mut frames_reader, &mut frames);
     let game = game_of(game_front, memory, frames, windows);
-    waiting_machine(alloc, front, game, undo)
+    waiting_machine(alloc, limits, front, game, undo)
 }
 
 /// A game state that is made of its parts.
@@ -140,14 +142,15 @@ fn game_of(front: GameFront, memory: Memory, frames: Frames, windows: Windows) -
 /// A machine with this game state that waits, where an instruction stands there and the numbers are within limits.
 fn waiting_machine(
     alloc: Global,
+    limits: Limits,
     front: Front,
     game: GameState,
     undo: Undo,
 ) -> Result<Option<Machine>, AllocError>
-    requires range { AreInRange front.limits }
-    requires bounds { bounds_of game.frames ≡ (front.limits.frames, front.limits.words) }
-    requires told { game.memory.undo_states ≡ front.limits.undo }
-    requires most { undo.most ≡ front.limits.undo }
+    requires range { AreInRange limits }
+    requires bounds { bounds_of game.frames ≡ (limits.frames, limits.words) }
+    requires told { game.memory.setup ≡ setup_of limits }
+    requires most { undo.most ≡ limits.undo }
     requires are_of { AreOf game.memory game.frames undo }
     requires read { is_read front.event ≡ true }
     requires gone { NothingGone game.windows }
@@ -155,7 +158,6 @@ fn waiting_machine(
         (λ m. IsMade game.memory.file m)) }
 {
     let place = front.place;
-    let limits = front.limits;
     if place.steps >= limits.steps || place.reads >= MOST_READS || place.pc >= 1_048_576 {
         return Ok(None);
     }
@@ -166,14 +168,15 @@ fn waiting_machine(
     Ok(Some(machine))
 }
 
-/// The machine whose snapshot some bytes are, or why they are refused, for a memory of a story at its start.
+/// The machine whose snapshot some bytes are, or why they are refused, for a memory of a story at its start, which is
+/// told what the limits say.
 fn opened(
     alloc: Global,
     memory: Memory,
-    undo_states: u8,
+    limits: Limits,
     bytes: &[u8],
 ) -> Result<Result<Machine, SnapshotError>, AllocError>
-    requires { memory.undo_states ≡ undo_states }
+    requires { memory.setup ≡ setup_of limits }
     ensures { IfOk result (λ answer. MatchResult answer
         (λ m. IsOpened memory.file bytes.now m)
         (λ e. e ≡ refusal_by (head_refusal memory.file bytes.now))) }
@@ -181,7 +184,7 @@ fn opened(
     if let Some(error) = head_refusal(alloc, &memory, bytes)? {
         return Ok(Err(error));
     }
-    let Some(machine) = machine_in(alloc, memory, undo_states, part(bytes, 23, bytes.len()))? else {
+    let Some(machine) = machine_in(alloc, memory, limits, part(bytes, 34, bytes.len()))? else {
         return Ok(Err(SnapshotError::Damaged));
     };
     let again = whole_snapshot(alloc, &machine)?;
@@ -199,17 +202,20 @@ fn opened(
 /// the serial number, the checksum or the sum of the story's file is another; `Damaged` for all others, whose first 23
 /// bytes are those of a snapshot of this story. `OutOfMemory` may come in place of each of them. That no snapshot of a
 /// machine is taken as damaged is tested, not proved.
-#[tactic(auto, using(crate::proofs::Filled::fresh_file, crate::proofs::Filled::fresh_undo))]
+#[tactic(auto, using(crate::proofs::Filled::fresh_file, crate::proofs::Filled::fresh_setup))]
 pub fn open_snapshot(alloc: Global, story: Story, bytes: &[u8]) -> Result<Machine, SnapshotError>
     ensures ok { IfOk result (λ m. IsOpened story bytes.now m) }
     ensures err { IfErr result (λ e. IsRefused story bytes.now e) }
 {
-    let undo_states = bytes.get(27).copied().unwrap_or(0);
-    let setup = Setup { undo_states };
+    let limits = limits_in(&mut Reader::new(part(bytes, 23, 11)));
+    let setup = Setup {
+        undo_states: limits.undo,
+        screen: limits.screen,
+    };
     let Ok(memory) = Memory::start(alloc, story, setup) else {
         return Err(SnapshotError::OutOfMemory);
     };
-    match opened(alloc, memory, undo_states, bytes) {
+    match opened(alloc, memory, limits, bytes) {
         Ok(Ok(machine)) => Ok(machine),
         Ok(Err(error)) => Err(error),
         Err(_) => Err(SnapshotError::OutOfMemory),

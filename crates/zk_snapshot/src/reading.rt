@@ -11,7 +11,7 @@ ghost use Rattle.zk_vm.specs.Step.{is_read};
 
 use arrayvec::ArrayVec;
 use std::alloc::AllocError;
-use zk_mem::memory::Memory;
+use zk_mem::memory::{Memory, ScreenSetup};
 use zk_save::packing::turn;
 use zk_save::undo::Undo;
 use zk_state::frames::Frames;
@@ -20,6 +20,7 @@ use zk_step::state::ending::Event;
 use zk_step::state::game_state::View;
 use zk_step::state::random::Generators;
 use zk_term::windows::{Window, Windows};
+use crate::writing::style_byte;
 use zk_vm::limits::Limits;
 use zk_vm::machine::parts::Place;
 
@@ -82,7 +83,6 @@ impl<'a> Reader<'a> {
 /// What a snapshot says before the game state.
 #[derive(Clone, Copy, Drop)]
 pub(crate) struct Front {
-    pub limits: Limits,
     pub place: Place,
     pub event: Event,
 }
@@ -96,13 +96,17 @@ pub(crate) struct GameFront {
     pub generators: Generators,
 }
 
-/// Limits.
-fn limits_in(reader: &mut Reader<'_>) -> Limits {
+/// Limits, which a snapshot has in 11 bytes after its first 23.
+pub(crate) fn limits_in(reader: &mut Reader<'_>) -> Limits {
     Limits {
         frames: reader.word(),
         words: reader.word(),
         undo: reader.byte(),
         steps: reader.number(),
+        screen: ScreenSetup {
+            columns: reader.byte(),
+            styles: reader.truth(),
+        },
     }
 }
 
@@ -165,21 +169,16 @@ fn streams_in(reader: &mut Reader<'_>) -> Streams {
     Streams::with_tables(screen, tables.as_slice())
 }
 
-/// What comes before the game state.
+/// What comes before the game state, after the limits.
 pub(crate) fn front_in(reader: &mut Reader<'_>) -> Front
     ensures { is_read result.event ≡ true }
 {
-    let limits = limits_in(reader);
     let place = place_in(reader);
     let event = event_in(reader);
     // the instruction that waits is the one at its address
     reader.number();
     store_in(reader);
-    Front {
-        limits,
-        place,
-        event,
-    }
+    Front { place, event }
 }
 
 /// What comes before the upper window.
@@ -193,48 +192,88 @@ pub(crate) fn game_front_in(reader: &mut Reader<'_>) -> GameFront {
     }
 }
 
-/// Puts a row's characters into the upper window.
-#[tactic(auto, using(crate::proofs::Gone::set_gone, crate::proofs::Gone::put_gone))]
+/// Sets a text style by its number, in place of the one that is set.
+fn set_style(windows: &mut Windows, number: u8)
+    ensures { NothingGone windows.old → NothingGone windows.new }
+{
+    windows.set_style(0);
+    windows.set_style(number as u16);
+}
+
+/// Puts a cell into the upper window, at the cursor.
+#[tactic(auto, using(crate::proofs::Gone::put_gone))]
+fn put_cell(reader: &mut Reader<'_>, windows: &mut Windows)
+    ensures { NothingGone windows.old → NothingGone windows.new }
+{
+    set_style(windows, reader.byte());
+    let high = reader.byte() as u32;
+    let character = high * 65536 + reader.word() as u32;
+    windows.put(char::from_u32(character).unwrap_or(' '));
+}
+
+/// Puts a row's cells into the upper window.
+#[tactic(auto, using(crate::proofs::Gone::set_gone))]
 fn fill_row(reader: &mut Reader<'_>, windows: &mut Windows, row: u16)
     ensures { NothingGone windows.old → NothingGone windows.new }
 {
     let count = reader.byte();
     windows.set_cursor(row, 1);
     for _i in 0..count {
-        windows.put(char::from_u32(reader.number()).unwrap_or(' '));
+        put_cell(reader, windows);
     }
 }
 
 /// Puts the cursor where it stood, which may be past the last row or column.
 #[tactic(auto, using(crate::proofs::Gone::set_gone, crate::proofs::Gone::put_gone, crate::proofs::Gone::row_gone))]
-fn put_cursor(windows: &mut Windows, row: u16, column: u8)
+fn put_cursor(windows: &mut Windows, row: u16, column: u16)
     ensures { NothingGone windows.old → NothingGone windows.new }
 {
-    if row == 1 && column == 81 {
-        let last = windows.row(1).get(79).copied().unwrap_or(' ');
-        windows.set_cursor(1, 80);
-        windows.put(last);
-    } else if row >= 2 && column >= 1 && column <= 81 {
+    let width = windows.width();
+    if row == 1 && column > width as u16 {
+        put_last_again(windows, width);
+    } else if row >= 2 && column >= 1 && column <= 256 {
         windows.set_cursor(row - 1, 1);
         windows.start_row(column);
     } else {
-        windows.set_cursor(row, column as u16);
+        windows.set_cursor(row, column);
     }
 }
 
-/// Fills windows that are new.
+/// Puts the character of the first row's last cell there again, so that the cursor stands past it.
+#[tactic(auto, using(crate::proofs::Gone::set_gone, crate::proofs::Gone::put_gone))]
+fn put_last_again(windows: &mut Windows, width: u8)
+    ensures { NothingGone windows.old → NothingGone windows.new }
+{
+    let last = width as usize;
+    let cell = windows.row_cells(1).get(last.saturating_sub(1)).copied();
+    windows.set_cursor(1, width as u16);
+    match cell {
+        Some(cell) => {
+            set_style(windows, style_byte(cell.style));
+            windows.put(cell.character);
+        }
+        None => {
+            set_style(windows, 0);
+            windows.put(' ');
+        }
+    }
+}
+
+/// Fills windows that are new, and have so many columns.
 #[tactic(auto, using(crate::proofs::Gone::split_gone, crate::proofs::Gone::select_gone))]
-pub(crate) fn fill_windows(reader: &mut Reader<'_>, windows: &mut Windows)
-    requires { windows.old ≡ first_windows }
+pub(crate) fn fill_windows(reader: &mut Reader<'_>, windows: &mut Windows, width: u8)
+    requires { windows.old ≡ first_windows width }
     ensures { NothingGone windows.new }
 {
     let height = reader.byte();
+    // the width is that of the limits
+    reader.byte();
     let row = reader.word();
-    let column = reader.byte();
+    let column = reader.word();
     let upper = reader.truth();
     let style = reader.byte();
+    windows.set_font(reader.truth());
     windows.split(4, height as u16);
-    windows.set_style(style as u16);
     if upper {
         windows.select(Window::Upper);
     }
@@ -242,6 +281,7 @@ pub(crate) fn fill_windows(reader: &mut Reader<'_>, windows: &mut Windows)
         fill_row(reader, windows, number + 1);
     }
     put_cursor(windows, row, column);
+    set_style(windows, style);
 }
 
 /// Gives dynamic memory its bytes.

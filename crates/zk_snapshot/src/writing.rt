@@ -7,7 +7,7 @@ ghost use Rattle.zk_state.specs.Frames.{frames_of};
 ghost use Rattle.std.specs.List.{flat_map};
 ghost use Rattle.zk_snapshot.specs.Snapshots.{bytes_8, truth_byte, store_bytes, state_bytes, story_bytes, limits_bytes};
 ghost use Rattle.zk_snapshot.specs.Snapshots.{place_bytes, event_bytes, view_byte, window_byte, style_byte};
-ghost use Rattle.zk_snapshot.specs.Snapshots.{generators_bytes};
+ghost use Rattle.zk_snapshot.specs.Snapshots.{cell_bytes, generators_bytes};
 ghost use Rattle.zk_snapshot.specs.Snapshots.{row_bytes, rows_bytes, windows_bytes, frame_bytes, frames_bytes};
 ghost use Rattle.zk_snapshot.specs.Snapshots.{table_bytes, streams_bytes, game_bytes, head_bytes};
 
@@ -20,7 +20,7 @@ use zk_step::state::ending::Event;
 use zk_step::state::game_state::{GameState, View};
 use zk_step::state::random::Generators;
 use zk_term::style::Style;
-use zk_term::windows::{Window, Windows};
+use zk_term::windows::{Cell, Window, Windows};
 use zk_vm::limits::Limits;
 use zk_vm::machine::parts::Place;
 
@@ -94,7 +94,7 @@ fn window_byte(window: Window) -> u8
 
 /// The number that sets a text style.
 #[tactic(auto, unfolding(crate::specs::Snapshots::style_byte))]
-fn style_byte(style: Style) -> u8
+pub(crate) fn style_byte(style: Style) -> u8
     ensures { result ≡ style_byte style }
 {
     truth_byte(style.reverse)
@@ -178,6 +178,8 @@ pub(crate) fn put_limits(out: &mut Vec<u8>, limits: Limits) -> Result<(), AllocE
     put_2(out, limits.words)?;
     out.push(limits.undo)?;
     put_4(out, limits.steps)?;
+    out.push(limits.screen.columns)?;
+    out.push(truth_byte(limits.screen.styles))?;
     Ok(())
 }
 
@@ -216,15 +218,25 @@ pub(crate) fn put_event(out: &mut Vec<u8>, event: Event) -> Result<(), AllocErro
     }
 }
 
-/// Writes the characters of a row, after their number.
-#[tactic(auto, unfolding(crate::specs::Snapshots::row_bytes))]
-fn put_row(out: &mut Vec<u8>, text: &[char]) -> Result<(), AllocError>
-    requires { length text.now ≤ 80 }
-    ensures { OnOk result (out.new.items ≡ out.old.items ++ row_bytes text.now) }
+/// Writes a cell.
+fn put_cell(out: &mut Vec<u8>, cell: Cell) -> Result<(), AllocError>
+    ensures { OnOk result (out.new.items ≡ out.old.items ++ cell_bytes cell) }
 {
-    out.push(text.len() as u8)?;
-    for c in text {
-        put_4(out, *c as u32)?;
+    let character = cell.character as u32;
+    out.push(style_byte(cell.style))?;
+    out.push((character / 65536) as u8)?;
+    put_2(out, (character % 65536) as u16)
+}
+
+/// Writes the cells of a row, after their number.
+#[tactic(auto, unfolding(crate::specs::Snapshots::row_bytes))]
+fn put_row(out: &mut Vec<u8>, cells: &[Cell]) -> Result<(), AllocError>
+    requires { length cells.now ≤ 255 }
+    ensures { OnOk result (out.new.items ≡ out.old.items ++ row_bytes cells.now) }
+{
+    out.push(cells.len() as u8)?;
+    for cell in cells {
+        put_cell(out, *cell)?;
     }
     Ok(())
 }
@@ -235,7 +247,7 @@ fn put_rows(out: &mut Vec<u8>, windows: &Windows) -> Result<(), AllocError>
     ensures { OnOk result (out.new.items ≡ out.old.items ++ rows_bytes 255 windows.now) }
 {
     for number in 0..255u8 {
-        put_row(out, windows.row(number + 1))?;
+        put_row(out, windows.row_cells(number + 1))?;
     }
     Ok(())
 }
@@ -247,10 +259,12 @@ fn put_windows(out: &mut Vec<u8>, windows: &Windows) -> Result<(), AllocError>
 {
     let (row, column) = windows.cursor();
     out.push(windows.height())?;
+    out.push(windows.width())?;
     put_2(out, row)?;
-    out.push(column)?;
+    put_2(out, column)?;
     out.push(window_byte(windows.selected()))?;
     out.push(style_byte(windows.style()))?;
+    out.push(truth_byte(windows.is_font_fixed()))?;
     put_rows(out, windows)?;
     Ok(())
 }

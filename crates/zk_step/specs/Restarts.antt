@@ -1,5 +1,5 @@
 -- A story begins again (Standard, section 6.1.3, and section 15, `restart`).
-use Rattle.std.specs.Prelude.{[]}
+use Rattle.std.specs.Prelude.{[], false}
 use Rattle.zk_mem.specs.Again.{restarted}
 use Rattle.zk_state.specs.Frames.{first_frames}
 use Rattle.zk_term.specs.Styles.{roman}
@@ -13,9 +13,9 @@ windows_closed w = record w { windows = unsplit w.windows; streams = record w.st
 
 -- text is roman
 unfoldable pub made_roman : GameState → GameState
-made_roman w = record w { windows = record w.windows { style = roman } }
+made_roman w = record w { windows = record w.windows { style = roman; fixed_font = false } }
 
--- memory is put back, the first frame stands alone, and text is roman; random numbers and what else the game state has
+-- memory is put back, the first frame stands alone, and text is roman, in the normal font; random numbers and what else the game state has
 -- go on
 unfoldable pub begun_again : GameState → GameState
 begun_again w =

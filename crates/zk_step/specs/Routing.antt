@@ -130,16 +130,17 @@ is_bit_1_set (Err f) = false
 unfoldable pub script_is_on : MemoryMap → Bool
 script_is_on m = is_bit_0_set (byte_at m flags_2)
 
--- the style that is set, with a fixed pitch while bit 1 of Flags 2 is (sections 8.7.1 and 11.1.2)
-unfoldable pub style_shown : MemoryMap → Style → Style
-style_shown m style = record style { fixed = style.fixed || is_bit_1_set (byte_at m flags_2) }
+-- the style that is set, with a fixed pitch where the font has one, and while bit 1 of Flags 2 is set (sections 8.1.2,
+-- 8.7.1 and 11.1.2)
+unfoldable pub style_shown : MemoryMap → Windows → Style
+style_shown m w = record w.style { fixed = w.style.fixed || w.fixed_font || is_bit_1_set (byte_at m flags_2) }
 
 -- the streams that are on, and the style of the text that they get
 abbrev pub selected_in : MemoryMap → GameState → Selected
 selected_in found w = record {
   screen = w.streams.screen;
   script = script_is_on found;
-  style = style_shown found w.windows.style;
+  style = style_shown found w.windows;
 }
 
 -- a character on the streams that are on

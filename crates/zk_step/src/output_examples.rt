@@ -6,6 +6,7 @@ ghost use Rattle.zk_step.specs.guards.OutputExamples.{CodesAreStored, LinesBegin
 ghost use Rattle.zk_step.specs.guards.OutputExamples.{UpperTextStaysThere, TablesAreSearched, RectanglesArePrinted};
 ghost use Rattle.zk_step.specs.guards.OutputExamples.{WindowsAreChanged, CursorsAreTold, StatusLinesNeedTheView};
 ghost use Rattle.zk_step.specs.guards.OutputExamples.{StylesAreShown, StylesFontsAndBleeps, WindowsAreErased};
+ghost use Rattle.zk_step.specs.guards.OutputExamples.{FontsOfAFixedPitch};
 
 /// Random numbers (Standard, section 15, `random`).
 #[tactic(auto, unfolding(crate::specs::Random::randomised))]
@@ -42,6 +43,7 @@ pub fn tables_and_windows_by_example()
     ensures windows_change { WindowsAreChanged }
     ensures erased { WindowsAreErased }
     ensures styles { StylesFontsAndBleeps }
+    ensures fonts { FontsOfAFixedPitch }
     ensures cursors { CursorsAreTold }
     ensures status_lines { StatusLinesNeedTheView }
 {}

@@ -3,6 +3,7 @@ use Rattle.std.specs.Prelude.{◌&&◌, if◌then◌else◌}
 use Rattle.std.proofs.Common.{◌≡◌, ◌∙◌, ◌≤◌, ◌<◌, inl, inr, ℕ, ◌+◌, ◌-◌, List, [], ◌∷◌, ◌++◌, take, Bool, true, false}
 use Rattle.std.proofs.Common.{Option, Some, None, Result, Ok, Err, refl, ap, sym, subst, arith, nat_le, nat_lt}
 use Rattle.std.proofs.lemmas.Bool.Decides.{nat_tests}
+use Rattle.zk_mem.specs.declared.memory.Setup.{Setup}
 use Rattle.zk_mem.specs.declared.fault.Fault.{Fault}
 use Rattle.zk_mem.specs.Map.{MemoryMap}
 use Rattle.zk_mem.specs.Results.{◌>>=◌}
@@ -31,6 +32,7 @@ use Rattle.zk_step.specs.Variables.{operands_read}
 use Rattle.zk_step.proofs.Sweep.{stories_stay}
 use Rattle.zk_fast.specs.declared.cache.Cache.{Cache}
 use Rattle.zk_fast.specs.Caches.{IsCacheOf}
+use Rattle.zk_vm.specs.Bounds.{setup_of}
 use Rattle.zk_vm.specs.declared.machine.Machine.TheInside.{Inside}
 use Rattle.zk_vm.specs.declared.stop.Stop.{Stop}
 use Rattle.zk_vm.specs.declared.stop.Stop.TheVariants as stop
@@ -56,7 +58,7 @@ use Rattle.zk_vm.proofs.Asking.{asks}
 use Rattle.zk_step.proofs.Operands.{operands_memory}
 use Rattle.zk_step.proofs.WithinBounds.{move_is}
 use Rattle.zk_step.proofs.SameStory.{same_version}
-use Rattle.zk_vm.proofs.Sounds.{running, while_running, same_most, sound_now, story_stays}
+use Rattle.zk_vm.proofs.Sounds.{running, while_running, same_setup, sound_now, story_stays}
 
 -- ---- what was carried out
 
@@ -91,7 +93,7 @@ sound_moved m n i x t is runs limits free steps reads undo same told bounds =
     let are = subst (λ (u : UndoStates). AreOf m.game.memory m.game.frames u) (sym undo) has.are_of in
     let cache = subst (λ (k : Cache). IsCacheOf (fixed_parts m.game.memory) k) (sym same) has.cache in
     sound_now m n is limits free steps (rw reads is.reads) (ap (λ (u : UndoStates). u.most) undo) bounds
-    (λ e. story_stays n m.game are (has.memory ∙ ap (λ (l : Limits). l.undo) (sym limits)) cache
+    (λ e. story_stays n m.game are (has.memory ∙ ap (λ (l : Limits). setup_of l) (sym limits)) cache
     (carried_fixed m.game i n.game x t told) bounds)
 
 -- ---- what is asked of a machine, from the state before and from the one after the instruction
@@ -100,9 +102,9 @@ asked_moved : (s : State) (i : Instr) (w : GameState) (x : Request) → w.memory
     → asked (record s { game = w }) i w x ≡ asked s i w x
 asked_moved s i w (Answer event) e = refl
 asked_moved s i w SaveUndo e =
-    ap (λ (v : ℕ). goes_to s (take w.memory.undo_states
+    ap (λ (v : ℕ). goes_to s (take w.memory.setup.undo_states
     (state_of w.memory w.frames (if nat_lt v 4 then s.pc + 1 else i.next - 1) ∷ s.undo))
-    (result_answered w i (kept_answer w.memory.undo_states) true)) e
+    (result_answered w i (kept_answer w.memory.setup.undo_states) true)) e
 asked_moved s i w RestoreUndo e = go (gone_back s.undo w.memory w.frames)
   where
     go : (q : Option (MemoryMap × FrameList × ℕ × List WholeState))
@@ -153,7 +155,7 @@ silent_by s undo r = step_all (λ x. text_of s x ≡ no_signals) _ r (λ x e. go
     go (Err e) = refl
 
 keeps_silent : (s : State) (i : Instr) (w : GameState) → text_of s (asked s i w SaveUndo) ≡ no_signals
-keeps_silent s i w = silent_by s (with_kept s i w) (result_answered w i (kept_answer w.memory.undo_states) true)
+keeps_silent s i w = silent_by s (with_kept s i w) (result_answered w i (kept_answer w.memory.setup.undo_states) true)
 
 -- ---- the ways of a step
 
@@ -255,14 +257,14 @@ stands_back m n w fixed same =
 
 -- or there is no memory for the state
 pub is_keeping : (m : Inside) (i : Instr) (w : GameState) (vs : List ℕ) → instr_at m.game.memory m.pc ≡ Ok i
-    → KeepsState i → operands_read m.game i.operands ≡ Ok (w, vs) → 0 < w.memory.undo_states → IsKeeping (state_seen m)
+    → KeepsState i → operands_read m.game i.operands ≡ Ok (w, vs) → 0 < w.memory.setup.undo_states → IsKeeping (state_seen m)
 is_keeping m i w vs h keeps taken some =
     let fixed = carried_fixed m.game i w (Asks SaveUndo) no_signals (keeps_asks m.game w i vs keeps taken) in
     record {
       instruction = i;
       fetched = h;
       keeps = keeps;
-      some = subst (λ (k : ℕ). 0 < k) (same_most m.game.memory w.memory fixed) some;
+      some = subst (λ (k : Setup). 0 < k.undo_states) (same_setup m.game.memory w.memory fixed) some;
       game = w;
       values = vs;
       operands = taken;

@@ -16,6 +16,7 @@ use Rattle.zk_step.specs.Routing.{Signals, no_signals}
 use Rattle.zk_fast.specs.QuietSteps.{AreNoted, GoesBy, IsRefused, IsRefusedAfter, IsQuietStep, QuietSteps}
 use Rattle.zk_fast.specs.QuietSteps.GoesBy.{nowhere, along}
 use Rattle.zk_fast.specs.QuietSteps.QuietSteps.{none, more}
+use Rattle.zk_vm.specs.Bounds.{setup_of}
 use Rattle.zk_vm.specs.declared.limits.Limits.{Limits}
 use Rattle.zk_vm.specs.declared.machine.Machine.TheInside.{Inside}
 use Rattle.zk_vm.specs.Going.{GoesAhead, IsAhead, StopsAhead, after_steps, stop_by}
@@ -77,7 +78,7 @@ sound_ahead m n k quiet_steps is runs limits free steps reads undo cache bounds 
     let has = running m.stopped (IsOfStory m) runs is.story in
     let are = subst (λ (u : UndoStates). AreOf m.game.memory m.game.frames u) (sym undo) has.are_of in
     sound_now m n is limits free steps (rw reads is.reads) (ap (λ (u : UndoStates). u.most) undo) bounds
-    (λ e. story_stays n m.game are (has.memory ∙ ap (λ (l : Limits). l.undo) (sym limits)) cache
+    (λ e. story_stays n m.game are (has.memory ∙ ap (λ (l : Limits). setup_of l) (sym limits)) cache
     (steps_fixed k m.game n.game m.pc n.pc quiet_steps) bounds)
 
 -- ---- where they stand

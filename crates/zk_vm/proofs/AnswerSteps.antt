@@ -69,7 +69,7 @@ pub record AnswersSo (read : Bool) (s t : State) : Type 0 where
   pub steps : t.steps ≤ s.steps + 1
   pub reads : t.reads ≤ s.reads + 1
   pub undo : t.undo ≡ s.undo
-  pub most : t.game.memory.undo_states ≡ s.game.memory.undo_states
+  pub most : t.game.memory.setup.undo_states ≡ s.game.memory.setup.undo_states
   pub same : read ≡ false → t.reads ≡ s.reads
 
 -- so it does where it goes on
@@ -78,7 +78,7 @@ AnswersOn read s x = (t : State) (text : Signals) → x ≡ Goes t text → Answ
 
 -- what an instruction leads to has memory that keeps as many states
 abbrev KeepsAsMany : State → Result (GameState × ℕ) Fault → Type 0
-KeepsAsMany s r = (x : GameState × ℕ) → r ≡ Ok x → x.0.memory.undo_states ≡ s.game.memory.undo_states
+KeepsAsMany s r = (x : GameState × ℕ) → r ≡ Ok x → x.0.memory.setup.undo_states ≡ s.game.memory.setup.undo_states
 
 settled_on : (s : State) (due : List ℕ) (r : Result (GameState × ℕ) Fault) → KeepsAsMany s r
     → AnswersOn true s (answer_settled s due r)
@@ -100,7 +100,7 @@ settled_on s due r most =
           steps = omega (arith, none);
           reads = omega (arith, one);
           undo = sym (ap (λ (u : State). u.undo) same);
-          most = sym (ap (λ (u : State). u.game.memory.undo_states) same) ∙ most x e;
+          most = sym (ap (λ (u : State). u.game.memory.setup.undo_states) same) ∙ most x e;
           same = λ k. absurd cc;
         }
 
@@ -121,7 +121,7 @@ goes_on s r most = step_all (AnswersOn false s) _ r (λ x e t text h. so x e t (
           steps = omega (arith, one);
           reads = omega (arith, none);
           undo = sym (ap (λ (u : State). u.undo) same);
-          most = sym (ap (λ (u : State). u.game.memory.undo_states) same) ∙ most x e;
+          most = sym (ap (λ (u : State). u.game.memory.setup.undo_states) same) ∙ most x e;
           same = λ k. sym none;
         }
 

@@ -21,6 +21,7 @@ use Rattle.zk_step.specs.Resuming.{resumed}
 use Rattle.zk_step.specs.Laws.{fixed_parts}
 use Rattle.zk_step.specs.Limited.{limited_pc}
 use Rattle.zk_step.proofs.Sweep.{answers_leave_stories}
+use Rattle.zk_vm.specs.Bounds.{setup_of}
 use Rattle.zk_vm.specs.declared.limits.Limits.{Limits}
 use Rattle.zk_fast.specs.declared.cache.Cache.{Cache}
 use Rattle.zk_fast.specs.Caches.{IsCacheOf}
@@ -243,7 +244,7 @@ read_sound m n w led is waits read limits free steps reads undo same bounds stop
     sound_now m n is limits free (omega (arith, steps)) (omega (arith, reads, few))
     (ap (λ (u : UndoStates). u.most) undo) bounds
     (going_led n.stopped m.stopped m.pc led (IsOfStory n) stops
-    (λ x e. story_stays n m.game are (has.memory ∙ ap (λ (l : Limits). l.undo) (sym limits)) cache
+    (λ x e. story_stays n m.game are (has.memory ∙ ap (λ (l : Limits). setup_of l) (sym limits)) cache
     (fixed x e) bounds))
 
 reads_char : (s : State) (w : Waiting) (code : ℕ) → w.wait ≡ event.Char

@@ -4,6 +4,7 @@ use Rattle.std.proofs.Common.{Some, None, Result, Ok, Err, refl, ap, sym, subst,
 use Rattle.std.specs.Prelude.{All, if◌then◌else◌}
 use Rattle.std.proofs.lemmas.Bool.Decides.{nat_tests}
 use Rattle.std.proofs.lemmas.List.Elements.{All-nil, All-cons, All-head, All-tail}
+use Rattle.zk_mem.specs.declared.memory.Setup.{Setup}
 use Rattle.zk_mem.specs.declared.fault.Fault.{Fault}
 use Rattle.zk_mem.specs.Fresh.{fresh}
 use Rattle.zk_mem.specs.Header.{header_of}
@@ -55,7 +56,7 @@ use Rattle.zk_vm.proofs.Staying.{FilesInto, Inside, KeptIn, Knows, RunsInside, e
 -- ---- where a run begins
 
 -- a story at its start keeps itself
-fresh_keeps : (story : List ℕ) (k : ℕ) → refusal story ≡ None → KeepsStory (fresh story k)
+fresh_keeps : (story : List ℕ) (k : Setup) → refusal story ≡ None → KeepsStory (fresh story k)
 unfolding fresh header_of
 fresh_keeps story k e =
     let is = none_bounds story e in
@@ -66,11 +67,11 @@ fresh_keeps story k e =
       keeps = drop-with_fields (header_of story).static_base (header_of story).version k story is.static_low;
     }
 
-fresh_story : (story : List ℕ) (k l : ℕ) → IsOneStory (fresh story k) (fresh story l)
+fresh_story : (story : List ℕ) (k l : Setup) → IsOneStory (fresh story k) (fresh story l)
 unfolding fresh
 fresh_story story k l = record { version = refl; base = refl; file = refl }
 
-begins : (story : List ℕ) (k : ℕ) (P : ℕ → Type 0) (seed : ℕ) (l : Limits) (view : View) → refusal story ≡ None
+begins : (story : List ℕ) (k : Setup) (P : ℕ → Type 0) (seed : ℕ) (l : Limits) (view : View) → refusal story ≡ None
     → P (header_of story).first_instruction → RunsInside (fresh story k) P (begun story seed l view)
 unfolding begun
 begins story k P seed l view is first = record {
@@ -335,7 +336,7 @@ clean_stops_read story is_in clean = stops_read story (λ a. is_in a ≡ true) c
 
 -- ---- the laws
 
-pub stays_clean : (story : List ℕ) (k : ℕ) (P : ℕ → Type 0) → refusal story ≡ None → IsClean (fresh story k) P
+pub stays_clean : (story : List ℕ) (k : Setup) (P : ℕ → Type 0) → refusal story ≡ None → IsClean (fresh story k) P
     → StaysClean story P
 unfolding fresh
 stays_clean story k P is clean =

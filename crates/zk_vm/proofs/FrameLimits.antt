@@ -128,8 +128,8 @@ asked_same f m s i w (Answer event) = ap (waits_by (state_in f m s) i event) (vi
     ∙ waits_by_same f m s i event (view_before event w)
 asked_same f m s i w SaveUndo =
     ap (goes_to (state_in f m s) (with_kept s i w))
-    (answers_see_no_bounds.result f m w i (kept_answer w.memory.undo_states) true)
-    ∙ goes_to_same f m s (with_kept s i w) (result_answered w i (kept_answer w.memory.undo_states) true)
+    (answers_see_no_bounds.result f m w i (kept_answer w.memory.setup.undo_states) true)
+    ∙ goes_to_same f m s (with_kept s i w) (result_answered w i (kept_answer w.memory.setup.undo_states) true)
 asked_same f m s i w RestoreUndo = back_same f m s i w s.undo
 asked_same f m s i w Quit = refl
 
@@ -261,20 +261,20 @@ pub record Counts (s t : State) : Type 0 where
   pub steps : t.steps ≡ s.steps + 1
   pub reads : t.reads ≡ s.reads
   pub due : t.due ≡ s.due
-  pub most : t.game.memory.undo_states ≡ s.game.memory.undo_states
-  pub undo : length s.undo ≤ s.game.memory.undo_states → length t.undo ≤ s.game.memory.undo_states
+  pub most : t.game.memory.setup.undo_states ≡ s.game.memory.setup.undo_states
+  pub undo : length s.undo ≤ s.game.memory.setup.undo_states → length t.undo ≤ s.game.memory.setup.undo_states
 
-pub same_most : (m n : MemoryMap) → fixed_parts n ≡ fixed_parts m → n.undo_states ≡ m.undo_states
+pub same_most : (m n : MemoryMap) → fixed_parts n ≡ fixed_parts m → n.setup.undo_states ≡ m.setup.undo_states
 unfolding fixed_parts
-same_most m n e = ap (λ (p : (ℕ × ℕ) × (List ℕ × Setup)). p.1.1) e
+same_most m n e = ap (λ (p : (ℕ × ℕ) × (List ℕ × Setup)). p.1.1.undo_states) e
 
 -- where a step goes on, it counts
 abbrev CountsOn : State → Step → Type 0
 CountsOn s x = (t : State) (text : Signals) → x ≡ Goes t text → Counts s t
 
 goes_counts : (s : State) (undo : List WholeState) (r : Result (GameState × ℕ) Fault)
-    → ((x : GameState × ℕ) → r ≡ Ok x → x.0.memory.undo_states ≡ s.game.memory.undo_states)
-    → (length s.undo ≤ s.game.memory.undo_states → length undo ≤ s.game.memory.undo_states)
+    → ((x : GameState × ℕ) → r ≡ Ok x → x.0.memory.setup.undo_states ≡ s.game.memory.setup.undo_states)
+    → (length s.undo ≤ s.game.memory.setup.undo_states → length undo ≤ s.game.memory.setup.undo_states)
     → CountsOn s (goes_to s undo r)
 goes_counts s undo r most few =
     step_all (CountsOn s) _ r (λ x e t more h. counted x e t more (sym (goes_same _ t no_signals more h)))
@@ -286,14 +286,14 @@ goes_counts s undo r most few =
       steps = ap (λ (u : State). u.steps) same;
       reads = ap (λ (u : State). u.reads) same;
       due = ap (λ (u : State). u.due) same;
-      most = ap (λ (u : State). u.game.memory.undo_states) same ∙ most x e;
+      most = ap (λ (u : State). u.game.memory.setup.undo_states) same ∙ most x e;
       undo =
           λ k. let here = few k in let length_is = ap (λ (u : State). length u.undo) same in
           omega (arith, here, length_is);
     }
 
 back_counts : (s : State) (i : Instr) (w : GameState) (ws : List WholeState)
-    → w.memory.undo_states ≡ s.game.memory.undo_states → length ws ≤ length s.undo
+    → w.memory.setup.undo_states ≡ s.game.memory.setup.undo_states → length ws ≤ length s.undo
     → CountsOn s (back_to s i w (gone_back ws w.memory w.frames))
 unfolding gone_back
 back_counts s i w [] most few = goes_counts s s.undo (result_answered w i 0 false)
@@ -305,26 +305,26 @@ back_counts s i w (v ∷ ws) most few =
     (λ k. omega (arith, k, few))
 
 asked_counts : (s : State) (i : Instr) (w : GameState) (x : Request)
-    → w.memory.undo_states ≡ s.game.memory.undo_states → CountsOn s (asked s i w x)
+    → w.memory.setup.undo_states ≡ s.game.memory.setup.undo_states → CountsOn s (asked s i w x)
 asked_counts s i w (Answer event) most =
     step_all (CountsOn s) _ (view_before event w) (λ v e t more h. absurd cc) (λ f e t more h. absurd cc)
 asked_counts s i w SaveUndo most =
-    let short : length (with_kept s i w) ≤ s.game.memory.undo_states = rw (← most, length-take) (omega arith) in
-    goes_counts s (with_kept s i w) (result_answered w i (kept_answer w.memory.undo_states) true)
-    (λ x e. same_most w.memory x.0.memory (answers_leave_stories.result w i (kept_answer w.memory.undo_states)
+    let short : length (with_kept s i w) ≤ s.game.memory.setup.undo_states = rw (← most, length-take) (omega arith) in
+    goes_counts s (with_kept s i w) (result_answered w i (kept_answer w.memory.setup.undo_states) true)
+    (λ x e. same_most w.memory x.0.memory (answers_leave_stories.result w i (kept_answer w.memory.setup.undo_states)
     true x e) ∙ most) (λ k. short)
 asked_counts s i w RestoreUndo most = back_counts s i w s.undo most (omega arith)
 asked_counts s i w Quit most = λ t more h. absurd cc
 
 led_counts : (s : State) (i : Instr) (w : GameState) (text : Signals) (n : Next)
-    → w.memory.undo_states ≡ s.game.memory.undo_states → CountsOn s (led_to s i w text n)
+    → w.memory.setup.undo_states ≡ s.game.memory.setup.undo_states → CountsOn s (led_to s i w text n)
 led_counts s i w text (At pc) most = λ t more h.
     let same = sym (goes_same _ t text more h) in
     record {
       steps = ap (λ (u : State). u.steps) same;
       reads = ap (λ (u : State). u.reads) same;
       due = ap (λ (u : State). u.due) same;
-      most = ap (λ (u : State). u.game.memory.undo_states) same ∙ most;
+      most = ap (λ (u : State). u.game.memory.setup.undo_states) same ∙ most;
       undo = λ k. let length_is = ap (λ (u : State). length u.undo) same in omega (arith, k, length_is);
     }
 led_counts s i w text (Asks x) most = asked_counts s i w x most
@@ -342,10 +342,10 @@ counts s t text = step_all (CountsOn s) _ (instr_at s.game.memory s.pc) (λ i e.
 
 -- a step that goes on leads to a state within the limits
 pub after_goes : (l : Limits) (s t : State) (text : Signals) (u : FrameList) → step s ≡ Goes t text
-    → bounds_of s.game.frames ≡ (l.frames, l.words) → s.game.memory.undo_states ≡ l.undo → s.steps + 1 ≤ l.steps
+    → bounds_of s.game.frames ≡ (l.frames, l.words) → s.game.memory.setup.undo_states ≡ l.undo → s.steps + 1 ≤ l.steps
     → s.reads ≤ most_reads → length s.undo ≤ l.undo
     → within_bounds t.game.frames ≡ Ok u → IsWithin l t × (bounds_of t.game.frames ≡ (l.frames, l.words))
-    × (t.game.memory.undo_states ≡ l.undo)
+    × (t.game.memory.setup.undo_states ≡ l.undo)
 unfolding bounds_of
 after_goes l s t text u e b most few read kept h =
     let most_of = within_is t.game.frames u h in
@@ -353,7 +353,7 @@ after_goes l s t text u e b most few read kept h =
     let more = counts s t text e in
     let f : t.game.frames.most_frames ≡ l.frames = ap (λ (p : ℕ × ℕ). p.0) same in
     let w : t.game.frames.most_words ≡ l.words = ap (λ (p : ℕ × ℕ). p.1) same in
-    let before : length s.undo ≤ s.game.memory.undo_states = omega (arith, kept, most) in
+    let before : length s.undo ≤ s.game.memory.setup.undo_states = omega (arith, kept, most) in
     let after = more.undo before in (
       record {
         frames = omega (arith, most_of.0, f);

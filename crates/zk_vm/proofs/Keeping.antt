@@ -3,6 +3,7 @@ use Rattle.std.specs.Prelude.{◌==◌, if◌then◌else◌, map}
 use Rattle.std.proofs.Common.{◌≡◌, ◌∙◌, ◌≤◌, ◌<◌, ℕ, ◌+◌, ◌-◌, List, [], ◌∷◌, take, length, Option, Some, None, Bool}
 use Rattle.std.proofs.Common.{true, false, Result, Ok, refl, ap, sym, subst, arith, nat_lt}
 use Rattle.std.proofs.lemmas.Bool.Decides.{nat_tests}
+use Rattle.zk_mem.specs.declared.memory.Setup.{Setup}
 use Rattle.zk_mem.specs.Map.{MemoryMap}
 use Rattle.zk_state.specs.Frames.{Frame, FrameList, bounds_of, with_frames}
 use Rattle.zk_code.specs.declared.instr.Instr.{Instr}
@@ -25,7 +26,7 @@ use Rattle.zk_vm.specs.Sound.{state_seen, IsOfStory, IsSound}
 use Rattle.zk_vm.specs.Step.{Step, asked, back_to, goes_to, kept_answer, saved_pc, with_kept}
 use Rattle.zk_vm.proofs.Going.{Told, told_on, gone_on}
 use Rattle.zk_step.proofs.SameStory.{same_file}
-use Rattle.zk_vm.proofs.Sounds.{running, same_most, back_fixed, story_stays, sound_after}
+use Rattle.zk_vm.proofs.Sounds.{running, same_setup, back_fixed, story_stays, sound_after}
 
 -- the machine that contracts see
 abbrev pub seen : Inside → Session
@@ -39,6 +40,10 @@ pub same_states : (m : MemoryMap) (n : MemoryMap) (u : UndoStates) → fixed_par
     → states_in n.file u ≡ states_in m.file u
 same_states m n u e = ap (λ (file : List ℕ). states_in file u) (same_file m n e)
 
+-- the memory of a story tells it how many states are kept
+most_told : (m : Inside) → IsOfStory m → m.game.memory.setup.undo_states ≡ m.limits.undo
+most_told m has = ap (λ (s : Setup). s.undo_states) has.memory
+
 -- it is sound where the states are those of the story
 pub sound_behind : (m : Inside) (w v : GameState) (pc steps : ℕ) (stopped : Option Stop) (undo : UndoStates)
     (led : Result ℕ Refusal) → IsSound m → m.stopped ≡ None → m.waiting ≡ None → m.steps < m.limits.steps
@@ -50,7 +55,7 @@ pub sound_behind : (m : Inside) (w v : GameState) (pc steps : ℕ) (stopped : Op
 sound_behind m w v pc steps stopped undo led is runs free room most are here same bounds counts stops fixed =
     let has = running m.stopped (IsOfStory m) runs is.story in
     sound_after m (behind m w pc steps stopped undo) m.pc led is room refl free counts refl most (bounds ∙ same) stops
-    (λ n e. story_stays (behind m w pc steps stopped undo) v are (same_most m.game.memory v.memory here
+    (λ n e. story_stays (behind m w pc steps stopped undo) v are (same_setup m.game.memory v.memory here
     ∙ has.memory) (rw here has.cache) (fixed n e) bounds)
 
 settles_as : (old new : Session) (answer : Result (Unit {0}) Halt) (x y : Step) → x ≡ y → Settles old new answer y
@@ -81,7 +86,7 @@ none_kept m i led w pc steps stopped answer is runs free room none few told boun
     let fixed : (n : ℕ) → result_answered m.game i 65535 true ≡ Ok (w, n)
     → fixed_parts w.memory ≡ fixed_parts m.game.memory
     = (λ n e. answers_leave_stories.result m.game i 65535 true (w, n) e) in
-    let most : m.game.memory.undo_states ≡ 0 = has.memory ∙ none in
+    let most : m.game.memory.setup.undo_states ≡ 0 = most_told m has ∙ none in
     let none_left : length m.undo.states ≤ 0 = omega (arith, few, is.most, none) in (
       sound_behind m w m.game pc steps stopped m.undo led is runs free room refl has.are_of refl refl bounds
           counts stops (told_on led (result_answered m.game i 65535 true) w told fixed),
@@ -120,8 +125,8 @@ one_kept m i undo saved led w pc steps stopped answer is runs free room some whe
     let kept : states_in m.game.memory.file undo ≡ with_kept (state_seen m) i m.game
     =
     put ∙ ap (λ (k : ℕ). take k (state_of m.game.memory m.game.frames saved ∷ states_in m.game.memory.file
-    m.undo)) (is.most ∙ sym has.memory)
-    ∙ ap (λ (p : ℕ). take m.game.memory.undo_states (state_of m.game.memory m.game.frames p
+    m.undo)) (is.most ∙ sym (most_told m has))
+    ∙ ap (λ (p : ℕ). take m.game.memory.setup.undo_states (state_of m.game.memory m.game.frames p
     ∷ states_in m.game.memory.file m.undo)) where_saved in
     let settled = gone_on (seen m) (with_kept (state_seen m) i m.game) (states_in w.memory.file undo)
     (result_answered m.game i 1 true) led w pc steps stopped answer free told tells at counts stops
@@ -132,8 +137,8 @@ one_kept m i undo saved led w pc steps stopped answer is runs free room some whe
           (asked (state_seen m) i m.game SaveUndo) (goes_to (state_seen m) (with_kept (state_seen m) i m.game)
           (result_answered m.game i 1 true))
           (ap (λ (k : ℕ). goes_to (state_seen m) (with_kept (state_seen m) i m.game)
-          (result_answered m.game i k true)) (answer_one m.game.memory.undo_states
-          (λ e. some (sym has.memory ∙ e)))) settled,
+          (result_answered m.game i k true)) (answer_one m.game.memory.setup.undo_states
+          (λ e. some (sym (most_told m has) ∙ e)))) settled,
     )
   where
     answer_one : (k : ℕ) → (k ≡ 0 → ⊥) → kept_answer k ≡ 1

@@ -14,6 +14,7 @@ use Rattle.zk_step.specs.declared.state.game_state.GameState.{GameState}
 use Rattle.zk_step.specs.Laws.{fixed_parts}
 use Rattle.zk_step.proofs.SameStory.{same_base}
 use Rattle.zk_fast.specs.Caches.{IsCacheOf}
+use Rattle.zk_vm.specs.Bounds.{setup_of}
 use Rattle.zk_vm.specs.declared.machine.Machine.TheInside.{Inside}
 use Rattle.zk_vm.specs.declared.stop.Stop.{Stop}
 use Rattle.zk_vm.specs.declared.waiting.Waiting.{Waiting}
@@ -37,9 +38,9 @@ can_answer_none m (Some w) e = absurd cc
 
 -- ---- the story's parts
 
-pub same_most : (m n : MemoryMap) → fixed_parts n ≡ fixed_parts m → n.undo_states ≡ m.undo_states
+pub same_setup : (m n : MemoryMap) → fixed_parts n ≡ fixed_parts m → n.setup ≡ m.setup
 unfolding fixed_parts
-same_most m n e = ap (λ (p : (ℕ × ℕ) × (List ℕ × Setup)). p.1.1) e
+same_setup m n e = ap (λ (p : (ℕ × ℕ) × (List ℕ × Setup)). p.1.1) e
 
 -- memory that is put back has them too
 pub back_fixed : (w : WholeState) (m : MemoryMap) → fixed_parts (memory_back w m) ≡ fixed_parts m
@@ -48,12 +49,12 @@ back_fixed w m = refl
 
 -- the states to go back to and the instructions that were decoded are those of a machine's story still
 pub story_stays : (n : Inside) (v : GameState) → AreOf v.memory v.frames n.undo
-    → v.memory.undo_states ≡ n.limits.undo → IsCacheOf (fixed_parts v.memory) n.cache
+    → v.memory.setup ≡ setup_of n.limits → IsCacheOf (fixed_parts v.memory) n.cache
     → fixed_parts n.game.memory ≡ fixed_parts v.memory → bounds_of n.game.frames ≡ bounds_of v.frames → IsOfStory n
 story_stays n v are most cache same bounds = record {
   are_of =
       same_of v.memory n.game.memory v.frames n.game.frames n.undo (same_base v.memory n.game.memory same) bounds are;
-  memory = same_most v.memory n.game.memory same ∙ most;
+  memory = same_setup v.memory n.game.memory same ∙ most;
   cache = rw same cache;
 }
 
@@ -118,6 +119,6 @@ within_limits m sound few is =
       undo = omega (arith, n, few, sound.most);
     }
 
-pub first_undo : (story : List ℕ) (undo : ℕ) → (fresh story undo).undo_states ≡ undo
+pub first_setup : (story : List ℕ) (setup : Setup) → (fresh story setup).setup ≡ setup
 unfolding fresh
-first_undo story undo = refl
+first_setup story setup = refl

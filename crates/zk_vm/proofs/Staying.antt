@@ -203,7 +203,7 @@ module _ (m : MemoryMap) (P : ℕ → Type 0) where
         resumes = (knows.kept by).0;
         after = (knows.kept by).1;
       } in
-      All-take KeptIn w.memory.undo_states (state_of w.memory w.frames (saved_pc s i) ∷ s.undo)
+      All-take KeptIn w.memory.setup.undo_states (state_of w.memory w.frames (saved_pc s i) ∷ s.undo)
       (All-cons KeptIn (state_of w.memory w.frames (saved_pc s i)) s.undo kept h.undo)
 
   frames_put : (f : FrameList) (fs : List Frame) → ReturnInto P f.current.pc f.callers → FramesReturn P fs
@@ -253,9 +253,9 @@ module _ (m : MemoryMap) (P : ℕ → Type 0) where
   unfolding goes_on
   asked_inside s i w (request.Answer event) h knows k by = waits_inside s i event w h k (knows.on by)
   asked_inside s i w request.SaveUndo h knows k by =
-      goes_to_inside s (with_kept s i w) w (result_answered w i (kept_answer w.memory.undo_states) true)
+      goes_to_inside s (with_kept s i w) w (result_answered w i (kept_answer w.memory.setup.undo_states) true)
       (story_after s.game.memory w.memory h.story k.parts) (kept_inside s i w h knows k by)
-      (λ x e. result_inside P w k.inside i (kept_answer w.memory.undo_states) true x
+      (λ x e. result_inside P w k.inside i (kept_answer w.memory.setup.undo_states) true x
       (knows.on (by_opcode i.opcode (opcode.Saving SaveUndo) refl by)) e)
   asked_inside s i w request.RestoreUndo h knows k by =
       back_to_inside s i w s.undo h k (knows.on (by_opcode i.opcode (opcode.Saving RestoreUndo) refl by)) h.undo

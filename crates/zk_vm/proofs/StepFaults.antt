@@ -67,7 +67,7 @@ led_later : (s : State) (i : Instr) (w : GameState) (text : Signals) (n : Next) 
 led_later s i w text (At pc) = tt
 led_later s i w text (Asks (Answer event)) = by_later _ _ (before_later event w) (λ x. tt)
 led_later s i w text (Asks SaveUndo) =
-    by_later _ _ (result_answered_later w i (kept_answer w.memory.undo_states) true) (λ x. tt)
+    by_later _ _ (result_answered_later w i (kept_answer w.memory.setup.undo_states) true) (λ x. tt)
 led_later s i w text (Asks RestoreUndo) = back_later s i w (gone_back s.undo w.memory w.frames)
 led_later s i w text (Asks Quit) = tt
 

@@ -83,7 +83,7 @@ pub record IsKeeping (s : State) : Type 0 where
   pub instruction : Instr
   pub fetched : instr_at s.game.memory s.pc ≡ Ok instruction
   pub keeps : KeepsState instruction
-  pub some : 0 < s.game.memory.undo_states
+  pub some : 0 < s.game.memory.setup.undo_states
   pub game : GameState
   pub values : List ℕ
   pub operands : operands_read s.game instruction.operands ≡ Ok (game, values)

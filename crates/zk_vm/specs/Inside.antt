@@ -2,6 +2,7 @@
 -- sections 4 to 6 and 15).
 use Rattle.std.specs.Prelude.{◌≡◌, ◌+◌, ℕ, Bool, true, false, ◌&&◌, List, [], ◌∷◌, All, Option, Some, None, Result, Ok}
 use Rattle.std.specs.Prelude.{Err, is_ok}
+use Rattle.zk_mem.specs.declared.memory.Setup.{Setup}
 use Rattle.zk_mem.specs.declared.fault.Fault.{Fault}
 use Rattle.zk_mem.specs.Fresh.{fresh}
 use Rattle.zk_mem.specs.Story.{refusal}
@@ -103,8 +104,8 @@ pub record StaysClean (story : List ℕ) (P : ℕ → Type 0) : Type 0 where
 
 -- so it is for each clean set
 abbrev pub CleanStays : Type 0
-CleanStays = (story : List ℕ) (undo_states : ℕ) (is_in : ℕ → Bool) → refusal story ≡ None
-    → IsClean (fresh story undo_states) (λ a. is_in a ≡ true) → StaysClean story (λ a. is_in a ≡ true)
+CleanStays = (story : List ℕ) (setup : Setup) (is_in : ℕ → Bool) → refusal story ≡ None
+    → IsClean (fresh story setup) (λ a. is_in a ≡ true) → StaysClean story (λ a. is_in a ≡ true)
 
 -- no machine of a story stops at an address of a set by a fault of reading the instruction there, whatever moves it
 -- makes

@@ -39,7 +39,7 @@ MayAnswer (Some w) s = (is_past_reads s.state.reads w.wait ≡ false) × (s.stat
 -- a machine's state is within its limits, and made for them
 pub record KeepsLimits (s : Session) : Type 0 where
   pub bounds : bounds_of s.state.game.frames ≡ (s.limits.frames, s.limits.words)
-  pub most : s.state.game.memory.undo_states ≡ s.limits.undo
+  pub most : s.state.game.memory.setup.undo_states ≡ s.limits.undo
   pub within : IsWithin s.limits s.state
   pub waits : MayAnswer s.waiting s
 

@@ -9,6 +9,7 @@ use Rattle.zk_step.specs.declared.state.game_state.GameState.{GameState}
 use Rattle.zk_step.specs.Routing.{Signals}
 use Rattle.zk_step.specs.Streams.{first_streams}
 use Rattle.zk_vm.specs.declared.limits.Limits.{Limits}
+use Rattle.zk_vm.specs.Bounds.{setup_of}
 use Rattle.zk_vm.specs.declared.stop.Stop.{Stop}
 use Rattle.zk_vm.specs.declared.waiting.Waiting.{Waiting}
 use Rattle.zk_vm.specs.Step.{State, Verdict, verdict_of, state_after}
@@ -27,10 +28,10 @@ pub record Session : Type 0 where
 -- the game state that a story begins with, with a seed of its random numbers
 abbrev pub first_game : List ℕ → ℕ → Limits → View → GameState
 first_game story seed limits view = record {
-  memory = fresh story limits.undo;
+  memory = fresh story (setup_of limits);
   frames = first_frames limits.frames limits.words;
   streams = first_streams;
-  windows = first_windows;
+  windows = first_windows limits.screen.columns;
   generators = record { free = seed; predictable = None };
   at_line_start = true;
   view = view;

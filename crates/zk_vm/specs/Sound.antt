@@ -5,6 +5,7 @@ use Rattle.zk_state.specs.Frames.{bounds_of}
 use Rattle.zk_step.specs.Laws.{fixed_parts}
 use Rattle.zk_fast.specs.Caches.{IsCacheOf}
 use Rattle.zk_vm.specs.declared.machine.Machine.TheInside.{Inside}
+use Rattle.zk_vm.specs.Bounds.{setup_of}
 use Rattle.zk_vm.specs.Halts.{CanAnswer, WhileRunning}
 use Rattle.zk_vm.specs.Step.{State}
 
@@ -19,11 +20,11 @@ state_seen m = record {
   undo = states_in m.game.memory.file m.undo;
 }
 
--- the states to go back to are those of the story, and as many of them are kept as its memory says; the instructions
--- that were decoded before are the story's
+-- the states to go back to are those of the story; its memory tells it what the limits say; the instructions that were
+-- decoded before are the story's
 pub record IsOfStory (m : Inside) : Type 0 where
   pub are_of : AreOf m.game.memory m.game.frames m.undo
-  pub memory : m.game.memory.undo_states ≡ m.limits.undo
+  pub memory : m.game.memory.setup ≡ setup_of m.limits
   pub cache : IsCacheOf (fixed_parts m.game.memory) m.cache
 
 -- a machine keeps to its limits; while it has no stop its states can be gone back to

@@ -84,7 +84,7 @@ saved_pc s i = if nat_lt s.game.memory.version 4 then s.pc + 1 else i.next - 1
 
 -- the state is kept in front of the others, of which the newest stay
 abbrev pub with_kept : State → Instr → GameState → List WholeState
-with_kept s i w = take w.memory.undo_states (state_of w.memory w.frames (saved_pc s i) ∷ s.undo)
+with_kept s i w = take w.memory.setup.undo_states (state_of w.memory w.frames (saved_pc s i) ∷ s.undo)
 
 -- the answer of an instruction that keeps the state: 1, or -1 where none is ever kept
 abbrev pub kept_answer : ℕ → ℕ
@@ -98,7 +98,7 @@ back_to s i w (Some (m, f, pc, others)) = goes_to s others (resumed (record w { 
 -- what becomes of an instruction that asks something of the machine; it has printed nothing
 abbrev pub asked : State → Instr → GameState → Request → Step
 asked s i w (request.Answer event) = waits_by s i event (view_before event w)
-asked s i w request.SaveUndo = goes_to s (with_kept s i w) (result_answered w i (kept_answer w.memory.undo_states) true)
+asked s i w request.SaveUndo = goes_to s (with_kept s i w) (result_answered w i (kept_answer w.memory.setup.undo_states) true)
 asked s i w request.RestoreUndo = back_to s i w (gone_back s.undo w.memory w.frames)
 asked s i w request.Quit = Quits
 

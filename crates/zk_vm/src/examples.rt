@@ -9,6 +9,7 @@ ghost use Rattle.zk_vm.specs.guards.Examples.{FramesAreLimited, RefusedStepsShow
 ghost use Rattle.zk_vm.specs.guards.Examples.{BeginsAtTheFirstInstruction, StopsForGood, LinesAnswerReads};
 ghost use Rattle.zk_vm.specs.guards.Examples.{LinesAreTyped, AnswersCountAnew, ReadsAreLimited, AnswersStop};
 ghost use Rattle.zk_vm.specs.guards.Examples.{MachinesWait, RoutinesAreOpen, EndsAreScripted, HostsSplit};
+ghost use Rattle.zk_vm.specs.guards.Examples.{StoriesHaveAScreen};
 
 /// Small stories, from their first instruction to their stop.
 pub fn runs_by_example()
@@ -50,6 +51,7 @@ pub fn views_by_example()
     ensures due_text { DueTextComesFirst }
     ensures ends_are_scripted { EndsAreScripted }
     ensures hosts_split { HostsSplit }
+    ensures stories_have_a_screen { StoriesHaveAScreen }
 {}
 
 /// Parts of a text.

@@ -3,7 +3,9 @@
 ghost use Rattle.std.specs.Prelude.{◌↔◌, IsTrue};
 ghost use Rattle.zk_vm.specs.Bounds.{AreInRange};
 
-/// What a machine holds and runs at most.
+use zk_mem::memory::ScreenSetup;
+
+/// What a machine holds and runs at most, and the screen that it plays to.
 #[derive(Clone, Copy, PartialEq, Eq, Drop)]
 pub struct Limits {
     /// Frames, the first among them: from 1 on.
@@ -14,6 +16,8 @@ pub struct Limits {
     pub undo: u8,
     /// Instructions between two reads: from 1 to 1,000,000,000.
     pub steps: u32,
+    /// The screen: from 20 columns on.
+    pub screen: ScreenSetup,
 }
 
 impl Limits {
@@ -21,6 +25,6 @@ impl Limits {
     pub fn check(&self) -> bool
         ensures { IsTrue result ↔ AreInRange self.now }
     {
-        self.frames >= 1 && self.undo <= 64 && self.steps >= 1 && self.steps <= 1_000_000_000
+        self.frames >= 1 && self.undo <= 64 && self.steps >= 1 && self.steps <= 1_000_000_000 && self.screen.columns >= 20
     }
 }

@@ -91,10 +91,11 @@ fn fresh_game(
 {
     let setup = Setup {
         undo_states: limits.undo,
+        screen: limits.screen,
     };
     let frames = Frames::new(alloc, limits.frames, limits.words)?;
     let memory = Memory::start(alloc, story, setup)?;
-    let windows = Windows::new(alloc)?;
+    let windows = Windows::new(alloc, limits.screen.columns)?;
     let generators = Generators {
         free: seed,
         predictable: None,

@@ -7,6 +7,8 @@ use Rattle.std.proofs.lemmas.List.Elements.{All-take}
 use Rattle.std.proofs.lemmas.List.{take-append-drop, length-take, length-append}
 use Rattle.zk_mem.specs.Header.{header_of}
 use Rattle.zk_mem.specs.declared.fault.Fault.{Fault}
+use Rattle.zk_mem.specs.declared.memory.ScreenSetup.{ScreenSetup}
+use Rattle.zk_mem.specs.declared.memory.Setup.{Setup}
 use Rattle.zk_code.specs.declared.instr.Instr.{Instr}
 use Rattle.zk_code.specs.Reading.{instr_at}
 use Rattle.zk_step.specs.Routing.{Signals}
@@ -16,8 +18,6 @@ use Rattle.zk_save.specs.Quetzal.{bytes_2, bytes_4}
 use Rattle.zk_save.specs.States.{WholeState}
 use Rattle.zk_state.specs.Frames.{Frame, FrameList, bounds_of, frames_of}
 use Rattle.zk_term.specs.Windows.{Windows, forgotten}
-use Rattle.zk_term.specs.Styles.{roman, style_set}
-use Rattle.zk_term.specs.declared.style.Style.{Style}
 use Rattle.zk_term.specs.declared.windows.Window.{Window}
 use Rattle.zk_term.specs.declared.windows.Window.TheVariants as window
 use Rattle.zk_step.specs.Streams.{OutputStreams}
@@ -32,6 +32,7 @@ use Rattle.zk_vm.specs.declared.limits.Limits.{Limits}
 use Rattle.zk_vm.specs.declared.machine.parts.Asking.{Asking}
 use Rattle.zk_vm.specs.declared.machine.parts.Place.{Place}
 use Rattle.zk_vm.specs.declared.waiting.Waiting.{Waiting}
+use Rattle.zk_vm.specs.Bounds.{setup_of}
 use Rattle.zk_vm.specs.Halts.{event_waited}
 use Rattle.zk_vm.specs.Sessions.{Session}
 use Rattle.zk_vm.specs.Parts.{asking_of, place_of}
@@ -43,7 +44,7 @@ use Rattle.zk_snapshot.specs.Snapshots.{style_byte}
 use Rattle.zk_snapshot.specs.Snapshots.{windows_bytes, frames_bytes, table_bytes, streams_bytes, game_bytes}
 use Rattle.zk_snapshot.specs.Snapshots.{states_bytes, head_bytes, body_bytes, snapshot_with}
 use Rattle.zk_snapshot.proofs.Codes.{cons_head, cons_tail, split_same, same_2, same_4, same_8, same_store, store_size}
-use Rattle.zk_snapshot.proofs.Codes.{same_state, state_size}
+use Rattle.zk_snapshot.proofs.Codes.{same_state, same_style, state_size}
 use Rattle.zk_snapshot.proofs.guards.Grown.{same_rows, cells_same, windows_same, same_all_frames}
 use Rattle.zk_snapshot.proofs.guards.SameStates.{HasBytes, same_states}
 
@@ -123,27 +124,45 @@ event_size event.Restore = refl
 
 -- ---- numbers
 
-limits_size : (l : Limits) → length (limits_bytes l) ≡ 9
+limits_size : (l : Limits) → length (limits_bytes l) ≡ 11
 unfolding limits_bytes
 limits_size l = refl
+
+-- what stands of limits after the words
+abbrev after_words : Limits → List ℕ
+after_words l = l.undo ∷ bytes_4 l.steps ++ (l.screen.columns ∷ truth_byte l.screen.styles ∷ [])
 
 same_limits : (l m : Limits) → limits_bytes l ≡ limits_bytes m → l ≡ m
 unfolding limits_bytes
 same_limits l m h =
-    let one = split_same (bytes_2 l.frames) (bytes_2 m.frames) (bytes_2 l.words ++ (l.undo ∷ bytes_4 l.steps))
-    (bytes_2 m.words ++ (m.undo ∷ bytes_4 m.steps)) refl h in
-    let two = split_same (bytes_2 l.words) (bytes_2 m.words) (l.undo ∷ bytes_4 l.steps) (m.undo ∷ bytes_4 m.steps)
-    refl one.1 in
-    joined l.frames m.frames l.words m.words l.undo m.undo l.steps m.steps (same_2 l.frames m.frames one.0)
-    (same_2 l.words m.words two.0) (cons_head l.undo m.undo (bytes_4 l.steps) (bytes_4 m.steps) two.1)
-    (same_4 l.steps m.steps (cons_tail l.undo m.undo (bytes_4 l.steps) (bytes_4 m.steps) two.1))
+    let lc = l.screen.columns ∷ truth_byte l.screen.styles ∷ [] in
+    let mc = m.screen.columns ∷ truth_byte m.screen.styles ∷ [] in
+    let one = split_same (bytes_2 l.frames) (bytes_2 m.frames) (bytes_2 l.words ++ after_words l)
+    (bytes_2 m.words ++ after_words m) refl h in
+    let two = split_same (bytes_2 l.words) (bytes_2 m.words) (after_words l) (after_words m) refl one.1 in
+    let undo = cons_head l.undo m.undo (bytes_4 l.steps ++ lc) (bytes_4 m.steps ++ mc) two.1 in
+    let three = split_same (bytes_4 l.steps) (bytes_4 m.steps) lc mc refl
+    (cons_tail l.undo m.undo (bytes_4 l.steps ++ lc) (bytes_4 m.steps ++ mc) two.1) in
+    let columns = cons_head l.screen.columns m.screen.columns (truth_byte l.screen.styles ∷ [])
+    (truth_byte m.screen.styles ∷ []) three.1 in
+    let styles = same_truth l.screen.styles m.screen.styles (cons_head (truth_byte l.screen.styles)
+    (truth_byte m.screen.styles) [] [] (cons_tail l.screen.columns m.screen.columns (truth_byte l.screen.styles ∷ [])
+    (truth_byte m.screen.styles ∷ []) three.1)) in
+    joined l.frames m.frames l.words m.words l.undo m.undo l.steps m.steps l.screen m.screen
+    (same_2 l.frames m.frames one.0) (same_2 l.words m.words two.0) undo (same_4 l.steps m.steps three.0)
+    (ap (λ (k : ℕ). screen_made k l.screen.styles) columns ∙ ap (λ (b : Bool). screen_made m.screen.columns b) styles)
   where
-    made : ℕ → ℕ → ℕ → ℕ → Limits
-    made f w u s = record { frames = f; words = w; undo = u; steps = s }
+    screen_made : ℕ → Bool → ScreenSetup
+    screen_made c b = record { columns = c; styles = b }
 
-    joined : (f g w v u x s t : ℕ) → f ≡ g → w ≡ v → u ≡ x → s ≡ t → made f w u s ≡ made g v x t
-    joined f g w v u x s t e1 e2 e3 e4 = ap (λ (k : ℕ). made k w u s) e1 ∙ ap (λ (k : ℕ). made g k u s) e2
-        ∙ ap (λ (k : ℕ). made g v k s) e3 ∙ ap (λ (k : ℕ). made g v x k) e4
+    made : ℕ → ℕ → ℕ → ℕ → ScreenSetup → Limits
+    made f w u s d = record { frames = f; words = w; undo = u; steps = s; screen = d }
+
+    joined : (f g w v u x s t : ℕ) (c d : ScreenSetup) → f ≡ g → w ≡ v → u ≡ x → s ≡ t → c ≡ d
+        → made f w u s c ≡ made g v x t d
+    joined f g w v u x s t c d e1 e2 e3 e4 e5 = ap (λ (k : ℕ). made k w u s c) e1 ∙ ap (λ (k : ℕ). made g k u s c) e2
+        ∙ ap (λ (k : ℕ). made g v k s c) e3 ∙ ap (λ (k : ℕ). made g v x k c) e4
+        ∙ ap (λ (k : ScreenSetup). made g v x t k) e5
 
 place_size : (p : Place) → length (place_bytes p) ≡ 12
 unfolding place_bytes
@@ -221,30 +240,13 @@ same_generators g k h =
 
 -- ---- the windows
 
--- a style is the one that its number sets
-style_back : (a b c d : Bool) → style_set (style_byte (record { reverse = a; bold = b; italic = c; fixed = d })) roman
-    ≡ record { reverse = a; bold = b; italic = c; fixed = d }
-unfolding style_byte
-style_back false false false false = refl
-style_back true false false false = refl
-style_back false true false false = refl
-style_back true true false false = refl
-style_back false false true false = refl
-style_back true false true false = refl
-style_back false true true false = refl
-style_back true true true false = refl
-style_back false false false true = refl
-style_back true false false true = refl
-style_back false true false true = refl
-style_back true true false true = refl
-style_back false false true true = refl
-style_back true false true true = refl
-style_back false true true true = refl
-style_back true true true true = refl
+-- what stands after the width, and after the window that is selected
+abbrev after_width : Windows → List ℕ → List ℕ
+after_width w a = bytes_2 w.row ++ (bytes_2 w.column ++ (window_byte w.selected ∷ style_byte w.style
+    ∷ truth_byte w.fixed_font ∷ (rows_bytes 255 w ++ a)))
 
-same_style : (s t : Style) → style_byte s ≡ style_byte t → s ≡ t
-same_style s t h = sym (style_back s.reverse s.bold s.italic s.fixed) ∙ ap (λ (n : ℕ). style_set n roman) h
-    ∙ style_back t.reverse t.bold t.italic t.fixed
+abbrev after_window : Windows → List ℕ → List ℕ
+after_window w a = style_byte w.style ∷ truth_byte w.fixed_font ∷ (rows_bytes 255 w ++ a)
 
 same_windows : (w v : Windows) (a b : List ℕ) → windows_bytes w ++ a ≡ windows_bytes v ++ b
     → (forgotten w ≡ forgotten v) × (a ≡ b)
@@ -252,22 +254,29 @@ unfolding windows_bytes
 same_windows w v a b h =
     let r = rows_bytes 255 w ++ a in
     let q = rows_bytes 255 v ++ b in
-    let x = style_byte w.style ∷ r in
-    let y = style_byte v.style ∷ q in
-    let height = cons_head w.height v.height (bytes_2 w.row ++ (w.column ∷ window_byte w.selected ∷ x))
-    (bytes_2 v.row ++ (v.column ∷ window_byte v.selected ∷ y)) h in
-    let one = cons_tail w.height v.height (bytes_2 w.row ++ (w.column ∷ window_byte w.selected ∷ x))
-    (bytes_2 v.row ++ (v.column ∷ window_byte v.selected ∷ y)) h in
-    let row = split_same (bytes_2 w.row) (bytes_2 v.row) (w.column ∷ window_byte w.selected ∷ x)
-    (v.column ∷ window_byte v.selected ∷ y) refl one in
-    let column = cons_head w.column v.column (window_byte w.selected ∷ x) (window_byte v.selected ∷ y) row.1 in
-    let two = cons_tail w.column v.column (window_byte w.selected ∷ x) (window_byte v.selected ∷ y) row.1 in
-    let selected = same_window w.selected v.selected
-    (cons_head (window_byte w.selected) (window_byte v.selected) x y two) in
-    let three = cons_tail (window_byte w.selected) (window_byte v.selected) x y two in
-    let style = same_style w.style v.style (cons_head (style_byte w.style) (style_byte v.style) r q three) in
-    let rows = same_rows 255 w v a b (cons_tail (style_byte w.style) (style_byte v.style) r q three) in
-    (windows_same w v (cells_same w v rows.0) height (same_2 w.row v.row row.0) column selected style, rows.1)
+    let height = cons_head w.height v.height (w.width ∷ after_width w a) (v.width ∷ after_width v b) h in
+    let one = cons_tail w.height v.height (w.width ∷ after_width w a) (v.width ∷ after_width v b) h in
+    let width = cons_head w.width v.width (after_width w a) (after_width v b) one in
+    let two = cons_tail w.width v.width (after_width w a) (after_width v b) one in
+    let row = split_same (bytes_2 w.row) (bytes_2 v.row) (bytes_2 w.column ++ (window_byte w.selected
+    ∷ after_window w a)) (bytes_2 v.column ++ (window_byte v.selected ∷ after_window v b)) refl two in
+    let column = split_same (bytes_2 w.column) (bytes_2 v.column) (window_byte w.selected ∷ after_window w a)
+    (window_byte v.selected ∷ after_window v b) refl row.1 in
+    let selected = same_window w.selected v.selected (cons_head (window_byte w.selected) (window_byte v.selected)
+    (after_window w a) (after_window v b) column.1) in
+    let three = cons_tail (window_byte w.selected) (window_byte v.selected) (after_window w a) (after_window v b)
+    column.1 in
+    let style = same_style w.style v.style (cons_head (style_byte w.style) (style_byte v.style)
+    (truth_byte w.fixed_font ∷ r) (truth_byte v.fixed_font ∷ q) three) in
+    let four = cons_tail (style_byte w.style) (style_byte v.style) (truth_byte w.fixed_font ∷ r)
+    (truth_byte v.fixed_font ∷ q) three in
+    let font = same_truth w.fixed_font v.fixed_font (cons_head (truth_byte w.fixed_font) (truth_byte v.fixed_font) r q
+    four) in
+    let rows = same_rows 255 w v a b (cons_tail (truth_byte w.fixed_font) (truth_byte v.fixed_font) r q four) in (
+      windows_same w v (cells_same w v rows.0) height width (same_2 w.row v.row row.0)
+          (same_2 w.column v.column column.0) selected style font,
+      rows.1,
+    )
 
 -- ---- frames
 
@@ -286,7 +295,7 @@ frames_joined s t h b =
 
 -- ---- memory
 
-same_memory : (m n : MemoryMap) → IsOfFile m → IsOfFile n → m.file ≡ n.file → m.undo_states ≡ n.undo_states
+same_memory : (m n : MemoryMap) → IsOfFile m → IsOfFile n → m.file ≡ n.file → m.setup ≡ n.setup
     → take m.static_base m.bytes ≡ take n.static_base n.bytes → m ≡ n
 same_memory m n is also file undo front =
     let version : m.version ≡ n.version = is.version ∙ ap (λ (f : List ℕ). (header_of f).version) file
@@ -298,14 +307,14 @@ same_memory m n is also file undo front =
     let bytes : m.bytes ≡ n.bytes = sym (take-append-drop m.static_base m.bytes)
     ∙ ap (λ (l : List ℕ). l ++ drop m.static_base m.bytes) front
     ∙ ap (λ (l : List ℕ). take n.static_base n.bytes ++ l) rest ∙ take-append-drop n.static_base n.bytes in
-    ap (λ (x : ℕ). made x m.static_base m.bytes m.file m.undo_states) version
-    ∙ ap (λ (x : ℕ). made n.version x m.bytes m.file m.undo_states) base
-    ∙ ap (λ (x : List ℕ). made n.version n.static_base x m.file m.undo_states) bytes
-    ∙ ap (λ (x : List ℕ). made n.version n.static_base n.bytes x m.undo_states) file
-    ∙ ap (λ (x : ℕ). made n.version n.static_base n.bytes n.file x) undo
+    ap (λ (x : ℕ). made x m.static_base m.bytes m.file m.setup) version
+    ∙ ap (λ (x : ℕ). made n.version x m.bytes m.file m.setup) base
+    ∙ ap (λ (x : List ℕ). made n.version n.static_base x m.file m.setup) bytes
+    ∙ ap (λ (x : List ℕ). made n.version n.static_base n.bytes x m.setup) file
+    ∙ ap (λ (x : Setup). made n.version n.static_base n.bytes n.file x) undo
   where
-    made : ℕ → ℕ → List ℕ → List ℕ → ℕ → MemoryMap
-    made v s b f u = record { version = v; static_base = s; bytes = b; file = f; undo_states = u }
+    made : ℕ → ℕ → List ℕ → List ℕ → Setup → MemoryMap
+    made v s b f u = record { version = v; static_base = s; bytes = b; file = f; setup = u }
 
 dynamic_size : (m n : MemoryMap) → IsOfFile m → IsOfFile n → m.file ≡ n.file
     → length (take m.static_base m.bytes) ≡ length (take n.static_base n.bytes)
@@ -396,7 +405,7 @@ game_is g a =
     ∙ append_assoc v s (r ++ (w ++ (m ++ (f ++ a))))
 
 same_game : (g k : GameState) (a b : List ℕ) → IsOfFile g.memory → IsOfFile k.memory
-    → g.memory.file ≡ k.memory.file → g.memory.undo_states ≡ k.memory.undo_states
+    → g.memory.file ≡ k.memory.file → g.memory.setup ≡ k.memory.setup
     → bounds_of g.frames ≡ bounds_of k.frames → game_bytes g ++ a ≡ game_bytes k ++ b
     → (without_gone g ≡ without_gone k) × (a ≡ b)
 unfolding rest_of
@@ -530,8 +539,8 @@ same_play us vs a b is also file sized also_sized h =
     let four = same_asking (asking_of a.waiting) (asking_of b.waiting) p.0 q.0 (game_bytes a.state.game ++ au)
     (game_bytes b.state.game ++ bu) p.1 q.1 three.1 in
     let limits = same_limits a.limits b.limits two.0 in
-    let undo : a.state.game.memory.undo_states ≡ b.state.game.memory.undo_states = is.undo
-    ∙ ap (λ (l : Limits). l.undo) limits ∙ sym also.undo in
+    let undo : a.state.game.memory.setup ≡ b.state.game.memory.setup = is.setup
+    ∙ ap (λ (l : Limits). setup_of l) limits ∙ sym also.setup in
     let bounds : bounds_of a.state.game.frames ≡ bounds_of b.state.game.frames = is.bounds ∙ ap pair limits
     ∙ sym also.bounds in
     let game = same_game a.state.game b.state.game au bu is.of_file also.of_file file undo bounds four.1 in

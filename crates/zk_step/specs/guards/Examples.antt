@@ -19,7 +19,7 @@ use Rattle.zk_code.specs.declared.operands.Operand.TheVariants.{Large, Small, Va
 use Rattle.zk_step.specs.declared.state.game_state.GameState.{GameState}
 use Rattle.zk_step.specs.declared.state.game_state.View.TheVariants.{Plain}
 use Rattle.zk_step.specs.Streams.{first_streams}
-use Rattle.zk_term.specs.Windows.{first_windows}
+use Rattle.zk_term.specs.Windows.{Windows, first_windows}
 use Rattle.zk_step.specs.Arithmetic.{arithmetic}
 use Rattle.zk_step.specs.Arrays.{array_accessed}
 use Rattle.zk_step.specs.Assignment.{assignment, pushing}
@@ -29,6 +29,10 @@ use Rattle.zk_step.specs.Variables.{global_address, named_read, named_written, v
 use Rattle.zk_step.specs.Variables.{indirect_read, indirect_written, operands_read}
 
 -- ---- what the examples work on
+
+-- the windows at the start, on a screen of 80 columns
+abbrev pub first_here : Windows
+first_here = first_windows 80
 
 -- memory of a version with these bytes, all of them dynamic; its header has the global variables at 4
 abbrev pub memory_of : ℕ → List ℕ → MemoryMap
@@ -60,7 +64,7 @@ working memory current callers = record {
   memory = memory;
   frames = record { current = current; callers = callers; most_frames = 5; most_words = 20 };
   streams = first_streams;
-  windows = first_windows;
+  windows = first_here;
   generators = record { free = 1; predictable = None };
   at_line_start = true;
   view = Plain;

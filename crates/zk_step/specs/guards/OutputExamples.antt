@@ -10,7 +10,7 @@ use Rattle.zk_term.specs.declared.style.Style.{Style}
 use Rattle.zk_term.specs.declared.windows.Window.TheVariants.{Upper}
 use Rattle.zk_term.specs.Signals.Signal.{Text, Script, Erase, Beep}
 use Rattle.zk_term.specs.Styles.{roman}
-use Rattle.zk_term.specs.Windows.{Windows, cleared, first_windows, printed, split, unsplit, window_selected}
+use Rattle.zk_term.specs.Windows.{Windows, cleared, printed, split, unsplit, window_selected}
 use Rattle.zk_code.specs.declared.opcode.Table.TheVariants.{ScanTable, PrintTable}
 use Rattle.zk_code.specs.declared.opcode.Window.TheVariants.{SplitWindow, SetWindow, EraseLine, SetCursor, GetCursor}
 use Rattle.zk_code.specs.declared.opcode.Window.TheVariants.{EraseWindow, ShowStatus, SetTextStyle, SetFont}
@@ -22,7 +22,7 @@ use Rattle.zk_step.specs.declared.output.streams.OpenTable.{OpenTable}
 use Rattle.zk_step.specs.declared.state.game_state.View.TheVariants as view
 use Rattle.zk_step.specs.declared.state.game_state.GameState.{GameState}
 use Rattle.zk_step.specs.Endings.{ends, gives, goes_on, prints}
-use Rattle.zk_step.specs.guards.Examples.{memory_of, working, routine_with}
+use Rattle.zk_step.specs.guards.Examples.{first_here, memory_of, working, routine_with}
 use Rattle.zk_step.specs.Random.{randomised}
 use Rattle.zk_step.specs.Routing.{routed, no_signals, stored_all, ends_line, with_line_start}
 use Rattle.zk_step.specs.Screens.{window_effect}
@@ -85,7 +85,7 @@ streaming m s = with_streams (working m (routine_with [] [] None) []) s
 -- one whose text style is set
 abbrev pub styled : MemoryMap → Style → GameState
 styled m style =
-    record (streaming m first_streams) { windows = record first_windows { style = style } }
+    record (streaming m first_streams) { windows = record first_here { style = style } }
 
 -- a number selects its stream and its negative deselects it; others do nothing (section 15, `output_stream`)
 abbrev pub StreamsAreSelected : Type 0
@@ -181,7 +181,7 @@ with_windows w = record (streaming (flags_of 1) first_streams) { windows = w }
 
 -- the upper window is selected, and has three rows
 abbrev pub upper_selected : Windows
-upper_selected = window_selected Upper (split 5 3 first_windows)
+upper_selected = window_selected Upper (split 5 3 first_here)
 
 -- text of the upper window goes to its grid alone, and while stream 1 is off nowhere (section 8.6)
 abbrev pub UpperTextStaysThere : Type 0
@@ -221,10 +221,10 @@ RectanglesArePrinted =
 -- first, and in the lower window the cursor stays (section 15)
 abbrev pub WindowsAreChanged : Type 0
 WindowsAreChanged =
-    (window_effect SplitWindow (with_windows first_windows) (3 ∷ []) ≡ Ok
-    (with_windows (split 5 3 first_windows), goes_on))
-    × (window_effect SetWindow (with_windows first_windows) (2 ∷ []) ≡ Ok (with_windows first_windows, goes_on))
-    × (window_effect SetCursor (with_windows first_windows) (2 ∷ 3 ∷ []) ≡ Ok (with_windows first_windows, goes_on))
+    (window_effect SplitWindow (with_windows first_here) (3 ∷ []) ≡ Ok
+    (with_windows (split 5 3 first_here), goes_on))
+    × (window_effect SetWindow (with_windows first_here) (2 ∷ []) ≡ Ok (with_windows first_here, goes_on))
+    × (window_effect SetCursor (with_windows first_here) (2 ∷ 3 ∷ []) ≡ Ok (with_windows first_here, goes_on))
     × (window_effect SetCursor (with_windows upper_selected) (65535 ∷ 3 ∷ []) ≡ Ok
     (with_windows (record upper_selected { row = 1; column = 3 }), goes_on))
     × (window_effect SetCursor (with_windows upper_selected) (2 ∷ 0 ∷ []) ≡ Ok
@@ -252,23 +252,46 @@ WindowsAreErased =
 -- low one, and there are no others (sections 8.7.1, 9.1 and 15)
 abbrev pub StylesFontsAndBleeps : Type 0
 StylesFontsAndBleeps =
-    (window_effect SetTextStyle (with_windows first_windows) (2 ∷ []) ≡ Ok
-    (with_windows (record first_windows { style = record roman { bold = true } }), goes_on))
-    × (window_effect SetTextStyle (with_windows (record first_windows { style = record roman { bold = true } }))
-    (4 ∷ []) ≡ Ok (with_windows (record first_windows { style = emphatic }), goes_on))
-    × (window_effect SetTextStyle (with_windows (record first_windows { style = emphatic })) (0 ∷ []) ≡ Ok
-    (with_windows first_windows, goes_on))
-    × (window_effect SetTextStyle (with_windows first_windows) (9 ∷ []) ≡ Ok
-    (with_windows (record first_windows { style = record roman { reverse = true; fixed = true } }), goes_on))
-    × (window_effect SetFont (with_windows first_windows) (1 ∷ []) ≡ Ok (with_windows first_windows, gives 1))
-    × (window_effect SetFont (with_windows first_windows) (0 ∷ []) ≡ Ok (with_windows first_windows, gives 1))
-    × (window_effect SetFont (with_windows first_windows) (4 ∷ []) ≡ Ok (with_windows first_windows, gives 0))
-    × (window_effect SoundEffect (with_windows first_windows) (1 ∷ []) ≡ Ok
-    (with_windows first_windows, prints (Bleep sound.High)))
-    × (window_effect SoundEffect (with_windows first_windows) (2 ∷ 3 ∷ []) ≡ Ok
-    (with_windows first_windows, prints (Bleep sound.Low)))
-    × (window_effect SoundEffect (with_windows first_windows) (3 ∷ []) ≡ Ok (with_windows first_windows, goes_on))
-    × (window_effect SoundEffect (with_windows first_windows) [] ≡ Ok (with_windows first_windows, goes_on))
+    (window_effect SetTextStyle (with_windows first_here) (2 ∷ []) ≡ Ok
+    (with_windows (record first_here { style = record roman { bold = true } }), goes_on))
+    × (window_effect SetTextStyle (with_windows (record first_here { style = record roman { bold = true } }))
+    (4 ∷ []) ≡ Ok (with_windows (record first_here { style = emphatic }), goes_on))
+    × (window_effect SetTextStyle (with_windows (record first_here { style = emphatic })) (0 ∷ []) ≡ Ok
+    (with_windows first_here, goes_on))
+    × (window_effect SetTextStyle (with_windows first_here) (9 ∷ []) ≡ Ok
+    (with_windows (record first_here { style = record roman { reverse = true; fixed = true } }), goes_on))
+    × (window_effect SetFont (with_windows first_here) (1 ∷ []) ≡ Ok (with_windows first_here, gives 1))
+    × (window_effect SetFont (with_windows first_here) (0 ∷ []) ≡ Ok (with_windows first_here, gives 1))
+    × (window_effect SetFont (with_windows first_here) (4 ∷ []) ≡ Ok (with_windows first_here, gives 0))
+    × (window_effect SoundEffect (with_windows first_here) (1 ∷ []) ≡ Ok
+    (with_windows first_here, prints (Bleep sound.High)))
+    × (window_effect SoundEffect (with_windows first_here) (2 ∷ 3 ∷ []) ≡ Ok
+    (with_windows first_here, prints (Bleep sound.Low)))
+    × (window_effect SoundEffect (with_windows first_here) (3 ∷ []) ≡ Ok (with_windows first_here, goes_on))
+    × (window_effect SoundEffect (with_windows first_here) [] ≡ Ok (with_windows first_here, goes_on))
+
+-- a game state whose story is told that there are styles
+abbrev pub told_of_styles : GameState → GameState
+told_of_styles w = with_memory w (record w.memory {
+  setup = record { undo_states = 0; screen = record { columns = 80; styles = true } };
+})
+
+-- the same with a font of a fixed pitch in the lower window
+abbrev pub in_fixed_font : GameState
+in_fixed_font = told_of_styles (with_windows (record first_here { fixed_font = true }))
+
+-- where a story is told of styles, font 4 is there: the font that was set before is told, and the upper window always
+-- has that one; text is shown with a fixed pitch while it is set (sections 8.1.2, 8.7.2 and 15)
+abbrev pub FontsOfAFixedPitch : Type 0
+FontsOfAFixedPitch =
+    (window_effect SetFont (told_of_styles (with_windows first_here)) (4 ∷ []) ≡ Ok (in_fixed_font, gives 1))
+    × (window_effect SetFont in_fixed_font (1 ∷ []) ≡ Ok (told_of_styles (with_windows first_here), gives 4))
+    × (window_effect SetFont in_fixed_font (0 ∷ []) ≡ Ok (in_fixed_font, gives 4))
+    × (window_effect SetFont in_fixed_font (3 ∷ []) ≡ Ok (in_fixed_font, gives 0))
+    × (window_effect SetFont (told_of_styles (with_windows upper_selected)) (1 ∷ []) ≡ Ok
+    (told_of_styles (with_windows upper_selected), gives 4))
+    × (routed (flags_of 0) in_fixed_font (Code 65) ≡ Ok
+    (with_line_start false in_fixed_font, Text 65 (record roman { fixed = true }) ∷ []))
 
 -- row and column of the cursor are stored in two words, the row first (section 15, `get_cursor`)
 abbrev pub CursorsAreTold : Type 0
@@ -279,11 +302,11 @@ CursorsAreTold =
           (memory_of 5 (0 ∷ 0 ∷ 1 ∷ 0 ∷ 0 ∷ 81 ∷ replicate 11 0 ++ 1 ∷ 0 ∷ 0 ∷ [])),
       goes_on,
     ))
-    × (window_effect GetCursor (with_windows first_windows) (18 ∷ []) ≡ Err BadAddress)
+    × (window_effect GetCursor (with_windows first_here) (18 ∷ []) ≡ Err BadAddress)
 
 -- without the view no status line is shown, nor in version 5
 abbrev pub StatusLinesNeedTheView : Type 0
 StatusLinesNeedTheView =
-    (window_effect ShowStatus (with_windows first_windows) [] ≡ Ok (with_windows first_windows, goes_on))
-    × (window_effect ShowStatus (record (with_windows first_windows) { view = view.Upper }) [] ≡ Ok
-    (record (with_windows first_windows) { view = view.Upper }, goes_on))
+    (window_effect ShowStatus (with_windows first_here) [] ≡ Ok (with_windows first_here, goes_on))
+    × (window_effect ShowStatus (record (with_windows first_here) { view = view.Upper }) [] ≡ Ok
+    (record (with_windows first_here) { view = view.Upper }, goes_on))

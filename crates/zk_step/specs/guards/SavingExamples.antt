@@ -11,7 +11,7 @@ use Rattle.zk_code.specs.declared.opcode.Saving.TheVariants.{SaveBranch, SaveSto
 use Rattle.zk_code.specs.declared.opcode.Saving.TheVariants.{Restore, Restart, Verify, SaveUndo, RestoreUndo}
 use Rattle.zk_code.specs.declared.operands.Operand.TheVariants.{Variable}
 use Rattle.zk_term.specs.declared.windows.Window.TheVariants.{Upper}
-use Rattle.zk_term.specs.Windows.{Windows, first_windows, printed, split, window_selected}
+use Rattle.zk_term.specs.Windows.{Windows, printed, split, window_selected}
 use Rattle.zk_step.specs.declared.state.ending.Ending.TheVariants as ending
 use Rattle.zk_step.specs.declared.state.ending.Next.TheVariants.{Asks, At}
 use Rattle.zk_step.specs.declared.state.ending.Event.TheVariants as event
@@ -19,7 +19,7 @@ use Rattle.zk_step.specs.declared.state.ending.Request.TheVariants as request
 use Rattle.zk_step.specs.declared.state.game_state.View.TheVariants as view
 use Rattle.zk_step.specs.declared.state.game_state.GameState.{GameState}
 use Rattle.zk_step.specs.Endings.{ends, gives, tests}
-use Rattle.zk_step.specs.guards.Examples.{memory_of, routine_with, caller_with, working, in_routine, instruction}
+use Rattle.zk_step.specs.guards.Examples.{first_here, memory_of, routine_with, caller_with, working, in_routine, instruction}
 use Rattle.zk_step.specs.guards.InstructionExamples.{silent, waiting}
 use Rattle.zk_step.specs.Finish.{finished}
 use Rattle.zk_step.specs.Inputs.{result_answered}
@@ -140,7 +140,7 @@ at_work = record {
     most_words = 20;
   };
   streams = streams false (table 20 3 ∷ table 30 1 ∷ []);
-  windows = printed (codes "AB") (window_selected Upper (split 3 2 first_windows));
+  windows = printed (codes "AB") (window_selected Upper (split 3 2 first_here));
   generators = states 7 (Some 5);
   at_line_start = false;
   view = view.Upper;
@@ -148,7 +148,7 @@ at_work = record {
 
 -- no upper window any more, but for the grid that has gone with it
 abbrev pub windows_after : Windows
-windows_after = record first_windows { gone = at_work.windows.cells; gone_height = 2 }
+windows_after = record first_here { gone = at_work.windows.cells; gone_height = 2 }
 
 -- the bytes are the file's, but for bits 0 and 1 of Flags 2 and what an interpreter sets; the first frame stands alone;
 -- there is no upper window and no open table; stream 1, random numbers and what the screen shows go on. The first

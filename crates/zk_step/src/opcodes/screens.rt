@@ -7,6 +7,7 @@ ghost use Rattle.zk_step.specs.declared.state.ending.Ending.TheVariants.{GoOn};
 ghost use Rattle.zk_step.specs.Printing.{IsLong, IsPrintable};
 ghost use Rattle.zk_step.specs.Screens.{selected_by, erased_by, erased_line, in_upper, or_first, windows_changed};
 ghost use Rattle.zk_step.specs.Screens.{cursor_stored, status_by, window_effect, erasure_of, bleep_of, font_answer};
+ghost use Rattle.zk_step.specs.Screens.{font_now, font_set, is_font};
 ghost use Rattle.zk_term.specs.Windows.{cursor_set};
 
 use crate::output::status::status_line;
@@ -66,11 +67,54 @@ fn bleep(number: u16) -> Output
     }
 }
 
-/// The number of the font that was set before, or 0 where the one that is asked for can't be set.
-fn font(number: u16) -> u16
-    ensures { result ≡ font_answer number }
+/// Whether a font can be set.
+fn is_font(styles: bool, number: u16) -> bool
+    ensures { result ≡ is_font styles number }
 {
-    if number <= 1 { 1 } else { 0 }
+    number == 1 || (styles && number == 4)
+}
+
+/// The number of the selected window's font, as a story knows it.
+fn font_now(windows: &Windows, styles: bool) -> u16
+    ensures { result ≡ font_now styles windows.now }
+{
+    if !styles {
+        return 1;
+    }
+    match windows.selected() {
+        Window::Upper => 4,
+        Window::Lower => {
+            if windows.is_font_fixed() {
+                4
+            } else {
+                1
+            }
+        }
+    }
+}
+
+/// The number of the font that was set before, or 0 where the one that is asked for can't be set.
+fn font(windows: &Windows, styles: bool, number: u16) -> u16
+    ensures { result ≡ font_answer styles number windows.now }
+{
+    if number == 0 || is_font(styles, number) {
+        font_now(windows, styles)
+    } else {
+        0
+    }
+}
+
+/// Sets the font of the lower window, while it is selected, where that can be set.
+fn set_font(windows: &mut Windows, styles: bool, number: u16)
+    ensures { windows.new ≡ font_set styles number windows.old }
+{
+    if !is_font(styles, number) {
+        return;
+    }
+    match windows.selected() {
+        Window::Lower => windows.set_font(number == 4),
+        Window::Upper => {}
+    }
 }
 
 /// Erases the rest of the cursor's row, where the value is 1 and the upper window is selected.
@@ -112,7 +156,7 @@ fn store_cursor(memory: &mut Memory, address: u16, windows: &Windows) -> Result<
 {
     let (row, column) = windows.cursor();
     memory.set_word(address as u32, row)?;
-    memory.set_word(address as u32 + 2, column as u16)
+    memory.set_word(address as u32 + 2, column)
 }
 
 /// Shows the status line in version 3, where the view has one.
@@ -167,7 +211,12 @@ pub fn windows_effect(
         }
         Operation::ShowStatus => return show_status(game),
         Operation::SetTextStyle => game.windows.set_style(first),
-        Operation::SetFont => return Ok(Effect::gives(font(first))),
+        Operation::SetFont => {
+            let styles = game.memory.setup().screen.styles;
+            let before = font(&game.windows, styles, first);
+            set_font(&mut game.windows, styles, first);
+            return Ok(Effect::gives(before));
+        }
         Operation::SoundEffect => return Ok(Effect::prints(bleep(first))),
     }
     Ok(Effect::goes_on())

@@ -312,14 +312,14 @@ fn print_some_rows(
     windows: &mut Windows,
     rectangle: Rectangle,
     row: &mut u16,
-    column: u8,
+    column: u16,
     on: bool,
     most: u32,
 ) -> bool
     requires stands { IsOk (rows_of memory.now rectangle) }
     requires within { row.old ≤ rectangle.height }
     requires from { 1 ≤ column }
-    requires to { column ≤ 81 }
+    requires to { column ≤ 256 }
     ensures value { upper_rows on (own_characters memory.now) column row.new (rest_rows memory.now rectangle row.new)
         windows.new
         ≡ upper_rows on (own_characters memory.now) column row.old (rest_rows memory.now rectangle row.old)
@@ -377,13 +377,13 @@ pub(crate) fn print_upper_part(
     memory: &Memory,
     windows: &mut Windows,
     rest: &mut Rest,
-    column: u8,
+    column: u16,
     on: bool,
     words: Option<u32>,
 ) -> bool
     requires stands { IsRest memory.now rest.old }
     requires from { 1 ≤ column }
-    requires to { column ≤ 81 }
+    requires to { column ≤ 256 }
     ensures on { result ≡ true → upper_rest on memory.now column rest.new windows.new
         ≡ upper_rest on memory.now column rest.old windows.old }
     ensures stands { result ≡ true → IsRest memory.now rest.new }

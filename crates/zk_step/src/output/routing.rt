@@ -119,13 +119,14 @@ fn is_fixed(memory: &Memory) -> bool
     }
 }
 
-/// A style, with a fixed pitch where all text is shown so.
+/// The style that is set, with a fixed pitch where the font has one, or all text is shown so.
 #[tactic(auto, unfolding(crate::specs::Routing::style_shown))]
-fn style_shown(memory: &Memory, style: Style) -> Style
-    ensures { result ≡ style_shown memory.now style }
+fn style_shown(memory: &Memory, windows: &Windows) -> Style
+    ensures { result ≡ style_shown memory.now windows.now }
 {
+    let style = windows.style();
     Style {
-        fixed: style.fixed || is_fixed(memory),
+        fixed: style.fixed || windows.is_font_fixed() || is_fixed(memory),
         reverse: style.reverse,
         bold: style.bold,
         italic: style.italic,
@@ -139,7 +140,7 @@ fn selected(game: &GameState) -> Selected
     Selected {
         screen: game.streams.screen(),
         script: is_script_on(&game.memory),
-        style: style_shown(&game.memory, game.windows.style()),
+        style: style_shown(&game.memory, &game.windows),
     }
 }
 

@@ -1,11 +1,12 @@
 // What is shown of the status line and the upper window on a screen of plain lines.
 
 ghost use Rattle.std.specs.Prelude.{◌≡◌, ◌≤◌, ◌++◌, ◌∷◌, ◌==◌, [], ℕ, List, true, false, Ok, Err, IsOk, MatchResult};
+ghost use Rattle.std.specs.Prelude.{map};
 ghost use Rattle.zk_state.specs.Frames.{bounds_of};
 ghost use Rattle.zk_text.specs.declared.unit.Unit.{Unit};
 ghost use Rattle.zk_text.specs.Extra.{own_characters};
 ghost use Rattle.zk_text.specs.Shown.{shown_all};
-ghost use Rattle.zk_term.specs.Windows.{row_text};
+ghost use Rattle.zk_term.specs.Windows.{character_of, row_text};
 ghost use Rattle.zk_step.specs.Routing.{fresh_line, on_screen, text_routed};
 ghost use Rattle.zk_step.specs.Status.{status_units};
 ghost use Rattle.zk_step.specs.View.{viewed, viewed_by, rows_shown};
@@ -19,7 +20,7 @@ use zk_mem::fault::Fault;
 use zk_mem::memory::Memory;
 use zk_term::screen::Screen;
 use zk_term::style::Style;
-use zk_term::windows::Windows;
+use zk_term::windows::{Cell, Windows};
 use zk_text::extra::Extra;
 use zk_text::sink::Sink;
 use zk_text::unit::Unit;
@@ -61,12 +62,12 @@ pub fn show_status_line<S: Screen>(memory: &Memory, screen: &mut S)
     }
 }
 
-/// Shows characters on the screen.
-fn show_characters<S: Screen>(screen: &mut S, characters: &[char])
-    ensures { S.shows screen.old screen.new (on_screen characters.now) }
+/// Shows the characters of cells on the screen, in no style.
+fn show_characters<S: Screen>(screen: &mut S, cells: &[Cell])
+    ensures { S.shows screen.old screen.new (on_screen (map character_of cells.now)) }
 {
-    for c in characters {
-        screen.text(*c, Style::roman());
+    for cell in cells {
+        screen.text(cell.character, Style::roman());
     }
 }
 

@@ -45,7 +45,7 @@ impl GameState {
     }
 
     /// Puts memory back and leaves the first frame alone (Z-Machine Standards Document 1.1, section 6.1.3). Text is
-    /// roman then.
+    /// roman then, in the normal font.
     #[tactic(auto, unfolding(crate::proofs::Opened::in_restart))]
     pub(crate) fn restart(&mut self)
         ensures value { self.new ≡ begun_again self.old }
@@ -55,6 +55,7 @@ impl GameState {
         self.frames.restart();
         self.close_windows();
         self.windows.set_style(0);
+        self.windows.set_font(false);
     }
 
     /// The frames and words are no more than there may be.

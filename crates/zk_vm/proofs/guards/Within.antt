@@ -74,7 +74,7 @@ asked_so : (s : State) (i : Instr) (v : GameState) (shown : Signals) (x : Reques
 asked_so s i v shown (request.Answer event) c =
     let so = asks s.game i v (request.Answer event) shown c in
     waits_so s i event v (taken_pops s.game v i.operands so.values so.operands)
-asked_so s i v shown request.SaveUndo c = goes_no_wait s _ (result_answered v i (kept_answer v.memory.undo_states) true)
+asked_so s i v shown request.SaveUndo c = goes_no_wait s _ (result_answered v i (kept_answer v.memory.setup.undo_states) true)
 asked_so s i v shown request.RestoreUndo c = back_no_wait s i v (gone_back s.undo v.memory v.frames)
 asked_so s i v shown request.Quit c = λ t w text h. absurd cc
 
@@ -139,7 +139,7 @@ waits_keeps s t w text k few e fits =
       left = None;
     }) = record {
       bounds = so.pops.bounds ∙ k.bounds;
-      most = ap (λ (m : MemoryMap). m.undo_states) so.pops.memory ∙ k.most;
+      most = ap (λ (m : MemoryMap). m.setup.undo_states) so.pops.memory ∙ k.most;
       within =
           record {
             frames = omega (arith, so.pops.frames, k.within.frames);

@@ -1,6 +1,7 @@
 -- Worked examples of this crate's definitions: small stories, and what the Standard's machine does with them, worked
 -- out by hand.
-use Rattle.std.specs.Prelude.{◌≡◌, ℕ, List, [], ◌∷◌, ◌++◌, Some, None, replicate, codes, true, false}
+use Rattle.std.specs.Prelude.{◌≡◌, ℕ, List, [], ◌∷◌, ◌++◌, Some, None, replicate, codes, slice_index, true, false}
+use Rattle.zk_mem.specs.Fresh.{plain_screen}
 use Rattle.zk_mem.specs.declared.fault.Fault.TheVariants.{BadAddress, DivisionByZero, BadOpcode, CodePastEnd, ReadOnly}
 use Rattle.zk_state.specs.declared.refusal.Limit.TheVariants.{Frames, Words, Steps, Reads}
 use Rattle.zk_state.specs.Frames.{Frame, FrameList, first_frame, first_frames}
@@ -34,7 +35,8 @@ starts story limits = begun story 1 limits Plain
 
 -- so many frames, words and instructions
 abbrev pub limits_of : ℕ → ℕ → ℕ → Limits
-limits_of frames words steps = record { frames = frames; words = words; undo = 0; steps = steps }
+limits_of frames words steps =
+    record { frames = frames; words = words; undo = 0; steps = steps; screen = plain_screen }
 
 -- what passes at so many moves of a machine that nobody answers
 abbrev pub log_of : ℕ → Session → List Entry
@@ -130,11 +132,17 @@ StopsForGood =
     × StaysAt (with_stop (starts prints_and_quits (limits_of 1 0 10)) (Fault 67 BadOpcode)) (Gets (Typed [] 13))
     × ((after (replicate 2 Goes) (starts prints_and_quits (limits_of 1 0 10))).stopped ≡ Some Quit)
 
--- from 1 frame on, up to 64 undo states, and from 1 to 1,000,000,000 instructions
+-- a screen of so many columns that has styles
+abbrev pub on_screen_of : ℕ → Limits
+on_screen_of columns = record (limits_of 1 1 10) { screen = record { columns = columns; styles = true } }
+
+-- from 1 frame on, up to 64 undo states, from 1 to 1,000,000,000 instructions, and from 20 columns on
 abbrev pub LimitsHaveRanges : Type 0
 LimitsHaveRanges =
-    AreInRange (record { frames = 1; words = 0; undo = 64; steps = 1 })
-    × AreInRange (record { frames = 1; words = 0; undo = 0; steps = 1000000000 })
+    AreInRange (record { frames = 1; words = 0; undo = 64; steps = 1; screen = plain_screen })
+    × AreInRange (record { frames = 1; words = 0; undo = 0; steps = 1000000000; screen = plain_screen })
+    × AreInRange (on_screen_of 20)
+    × (AreInRange (on_screen_of 19) → ⊥)
 
 -- ---- reads
 
@@ -258,6 +266,15 @@ EndsAreScripted =
     × (passed (Goes ∷ Goes ∷ Gets (Typed (codes "go") 133) ∷ Goes ∷ Goes ∷ [])
     (starts reads_into_script (limits_of 1 1 10)) ≡ At 64 ∷ At 67 ∷ Read None (codes "go") 133 ∷ At 71
     ∷ Stopped Quit ∷ [])
+
+-- a story begins on a screen of so many columns, and is told of them and of the styles (sections 8.4 and 11.1)
+abbrev pub StoriesHaveAScreen : Type 0
+StoriesHaveAScreen =
+    ((starts echoes (on_screen_of 40)).state.game.windows.width ≡ 40)
+    × (slice_index (starts echoes (on_screen_of 40)).state.game.memory.bytes 0x23 ≡ 40)
+    × (slice_index (starts echoes (on_screen_of 40)).state.game.memory.bytes 0x01 ≡ 0x1c)
+    × (slice_index (starts echoes (limits_of 1 1 10)).state.game.memory.bytes 0x23 ≡ 80)
+    × (slice_index (starts echoes (limits_of 1 1 10)).state.game.memory.bytes 0x01 ≡ 0x10)
 
 -- A host gives the upper window rows, 255 at most. Those that were there stay as they are, and in the middle of a text
 -- nothing changes (section 15, `split_window`).

@@ -1,5 +1,6 @@
 -- Worked examples of saved games and of states to go back to: small stories, worked out by hand.
 use Rattle.std.specs.Prelude.{◌≡◌, ℕ, ◌+◌, List, [], ◌∷◌, ◌++◌, Some, None, replicate, true, false}
+use Rattle.zk_mem.specs.Fresh.{plain_screen}
 use Rattle.zk_save.specs.declared.restore.RestoreError.TheVariants.{Truncated}
 use Rattle.zk_state.specs.declared.refusal.Limit.TheVariants.{Steps}
 use Rattle.zk_vm.specs.declared.limits.Limits.{Limits}
@@ -19,7 +20,7 @@ use Rattle.zk_term.specs.Styles.{roman}
 
 -- one frame, nine words, so many states to go back to, and so many instructions
 abbrev pub keeping : ℕ → ℕ → Limits
-keeping undo steps = record { frames = 1; words = 9; undo = undo; steps = steps }
+keeping undo steps = record { frames = 1; words = 9; undo = undo; steps = steps; screen = plain_screen }
 
 -- `add` of 48 to the top of the evaluation stack, and `print_char` of that: a digit
 abbrev pub prints_digit : List ℕ

@@ -80,8 +80,7 @@ impl Machine {
     }
 
     /// The bounds of the frames are those of the limits. A machine that waits has no stop, nothing is due to its
-    /// transcript, no text is still to come, and its memory tells the story of as many states to go back to as the
-    /// limits say.
+    /// transcript, no text is still to come, and its memory tells the story what the limits say.
     pub fn is_whole(&self)
         ensures bounds { bounds_of self.now.state.game.frames
             ≡ (self.now.limits.frames, self.now.limits.words) }
@@ -90,8 +89,8 @@ impl Machine {
         ensures shown { OnSome (asking_of self.now.waiting) (self.now.left ≡ None) }
         ensures fetched { IfSome self.now.waiting
             (λ w. instr_at self.now.state.game.memory self.now.state.pc ≡ Ok w.instruction) }
-        ensures undo { OnSome (asking_of self.now.waiting)
-            (self.now.state.game.memory.undo_states ≡ self.now.limits.undo) }
+        ensures setup { OnSome (asking_of self.now.waiting)
+            (self.now.state.game.memory.setup ≡ setup_of self.now.limits) }
     {
         let _ = &self.limits;
     }
@@ -126,7 +125,7 @@ impl Machine {
         requires inside { 1 ≤ instruction.next }
         requires fetched { instr_at game.memory place.pc ≡ Ok instruction }
         requires bounds { bounds_of game.frames ≡ (limits.frames, limits.words) }
-        requires undo { game.memory.undo_states ≡ limits.undo }
+        requires setup { game.memory.setup ≡ setup_of limits }
         requires most { undo.most ≡ limits.undo }
         requires are_of { AreOf game.memory game.frames undo }
         ensures { IfOk result (λ m. m ≡ waiting_with game place limits event instruction

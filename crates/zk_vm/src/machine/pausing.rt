@@ -252,7 +252,7 @@ impl PausingMachine {
     {
         machine.is_told();
         let codes = Codes::new(alloc)?;
-        let draft = Windows::new(alloc)?;
+        let draft = Windows::new(alloc, machine.windows().width())?;
         Ok(PausingMachine {
             machine,
             half: None,

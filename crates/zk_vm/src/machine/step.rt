@@ -342,7 +342,7 @@ impl Machine {
         requires inside { self.old.state.pc < i.now.next }
         ensures step { IfOk result (λ went. Settles self.old self.new went
             (asked self.old.state i.now self.old.state.game Request.SaveUndo)) }
-        ensures short { OnErr result ((self.new ≡ self.old) × (0 < self.old.state.game.memory.undo_states)) }
+        ensures short { OnErr result ((self.new ≡ self.old) × (0 < self.old.state.game.memory.setup.undo_states)) }
         ensures counted { IfOk result (λ went. OnOk went (self.new.state.steps ≡ self.old.state.steps + 1)) }
         ensures silent { IfOk result (λ went. OnOk went (self.new.state.due ≡ self.old.state.due)) }
         ensures reads { self.new.state.reads ≡ self.old.state.reads }

@@ -1,20 +1,29 @@
 use Rattle.std.specs.Prelude.{encode_utf8}
-use Rattle.std.proofs.Common.{◌∙◌, ◌++◌, ℕ, List, ap, arith}
+use Rattle.std.proofs.Common.{◌≡◌, ◌<◌, ◌∙◌, ◌++◌, ℕ, List, ap, arith, get_or, length, map, sym}
+use Rattle.std.proofs.lemmas.List.{get_or-map, length-map}
+use Rattle.zk_term.specs.Windows.{character_of}
 use Rattle.zk_host.proofs.Encoding.{next_encoded}
 use Rattle.zk_host.proofs.drawing.utf8_of.Goals as goal
 
-pub loop-c-preserved : goal.loop-c-preserved
-loop-c-preserved c =
-    let bytes = c.as_bytes.ensures.value ∙ c.encode_utf8.ensures.value ∙ ap encode_utf8 c.c-item.is in
-    let added = c.in-Ok.ensures.ok ∙ ap (λ (b : List ℕ). c.loop-c.bytes.items ++ b) bytes in
+pub loop-cell-preserved : goal.loop-cell-preserved
+loop-cell-preserved c =
+    let cells = c.args.cells.now in
+    let i = c.loop-cell.cell-index in
+    let d : ℕ = c.cell-item.result.character in
+    let there : d ≡ get_or (map character_of cells) i d = ap character_of c.cell-item.is
+    ∙ sym (get_or-map character_of cells i c.cell-item.result d c.loop-cell-test.true) in
+    let within : i < length (map character_of cells) = omega (arith, length-map cells character_of,
+    c.loop-cell-test.true) in
+    let bytes = c.as_bytes.ensures.value ∙ c.encode_utf8.ensures.value ∙ ap encode_utf8 there in
+    let added = c.in-Ok.ensures.ok ∙ ap (λ (b : List ℕ). c.loop-cell.bytes.items ++ b) bytes in
     record {
-      bytes = added ∙ next_encoded c.args.characters.now c.loop-c.c-index _ c.loop-c.bytes.items
-          c.loop-c-test.true c.loop-c.invariant.bytes;
+      bytes = added ∙ next_encoded (map character_of cells) i d c.loop-cell.bytes.items within
+          c.loop-cell.invariant.bytes;
       few = omega (
         arith,
         c.in-Ok.ensures.len,
         c.as_bytes.ensures.len,
         c.encode_utf8.ensures.upper_bound,
-        c.loop-c.invariant.few,
+        c.loop-cell.invariant.few,
       );
     }

@@ -1,9 +1,10 @@
 use Rattle.std.specs.Prelude.{encode_utf8_all}
-use Rattle.std.proofs.Common.{◌≡◌, ◌≤◌, ◌*◌, length, take}
+use Rattle.std.proofs.Common.{◌≡◌, ◌≤◌, ◌*◌, length, map, take}
+use Rattle.zk_term.specs.Windows.{character_of}
 use Rattle.zk_host.proofs.drawing.utf8_of.Given as goal
 
-abbrev pub invariant-loop-c : goal.invariant-loop-c
-invariant-loop-c l = record {
-  bytes : l.bytes.items ≡ encode_utf8_all (take l.c-index l.characters);
-  few : length l.bytes.items ≤ 4 * l.c-index;
+abbrev pub invariant-loop-cell : goal.invariant-loop-cell
+invariant-loop-cell l = record {
+  bytes : l.bytes.items ≡ encode_utf8_all (take l.cell-index (map character_of l.cells));
+  few : length l.bytes.items ≤ 4 * l.cell-index;
 }

@@ -1,7 +1,8 @@
 use Rattle.std.proofs.Common.{◌≡◌, ◌∷◌, [], ◌++◌, length, take}
 use Rattle.std.specs.List.{flat_map}
-use Rattle.zk_save.specs.Quetzal.{bytes_4}
+use Rattle.zk_snapshot.specs.Snapshots.{cell_bytes}
 use Rattle.zk_snapshot.proofs.writing.put_row.Given as goal
 
-abbrev pub invariant-loop-c : goal.invariant-loop-c
-invariant-loop-c l = l.out.items ≡ l.fn.out.items ++ length l.text ∷ [] ++ flat_map bytes_4 (take l.c-index l.text)
+abbrev pub invariant-loop-cell : goal.invariant-loop-cell
+invariant-loop-cell l =
+    l.out.items ≡ l.fn.out.items ++ length l.cells ∷ [] ++ flat_map cell_bytes (take l.cell-index l.cells)
