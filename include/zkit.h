@@ -89,7 +89,8 @@ typedef struct zkit_options {
 } zkit_options;
 
 /* Sets each field within `options->size` to the value that zkit_open uses without options: seed 1, the limits above,
- * no upper window, no styles, no keys and 80 columns. If the size does not include all fields up to `upper`, sets none. */
+ * no upper window, no styles, no keys and 80 columns. If the size does not include all fields up to `upper`, sets
+     none. */
 void zkit_defaults(zkit_options *options);
 
 /* Why zkit_open and zkit_open_snapshot open nothing. */
@@ -377,7 +378,7 @@ uint32_t zkit_snapshot(zkit *game, uint8_t *buffer, size_t length, size_t *neede
 uint32_t zkit_snapshot_with_undo(zkit *game, size_t undo_bytes, uint8_t *buffer, size_t length, size_t *needed);
 
 /* The most bytes that a snapshot of the game can have, now or later, with this many bytes of undo states: 0 for
- * zkit_snapshot. It is 82,008, plus the story's dynamic memory (less than 65,536), plus 10 for each frame and 2 for
+ * zkit_snapshot. It is 260,513, plus the story's dynamic memory (less than 65,536), plus 10 for each frame and 2 for
  * each word that the limits allow, plus undo_bytes; or SIZE_MAX if that is less. */
 size_t zkit_longest_snapshot(const zkit *game, size_t undo_bytes);
 
@@ -418,7 +419,8 @@ size_t zkit_row(const zkit *game, uint32_t row, uint8_t *buffer, size_t length);
 /* The same for a row of the tallest grid since the last answer to a read. */
 size_t zkit_tallest_row(const zkit *game, uint32_t row, uint8_t *buffer, size_t length);
 
-/* Puts the styles of the cells of a row of the upper window, from 1 on, at the front of a buffer, a byte for each, or as
+/* Puts the styles of the cells of a row of the upper window, from 1 on, at the front of a buffer, a byte for
+    each, or as
  * many as fit; returns how many, at most the width. A style is the sum of ZKIT_REVERSE .. ZKIT_FIXED, as for a run, but
  * all of the upper window is shown with a fixed pitch anyway. Cells after the last one told are empty. A row may have
  * more cells here than characters in zkit_row: spaces in reverse are seen. */

@@ -56,7 +56,8 @@ macro_rules! on_play {
 }
 
 /// Opens a story at its start, in place of one that the handle may have: `Machine::start` of `zk_vm`. Answers 0, or why
-/// it is not opened: 1 to 6 are the numbers of `OpenError`, 7 a limit out of its range. Then the handle is as it was. The screen
+/// it is not opened: 1 to 6 are the numbers of `OpenError`, 7 a limit out of its range. Then the handle is as it
+/// was. The screen
 /// has so many columns, and unless `styles` is 0 the story is told that there is bold and italic text.
 #[unsafe(no_mangle)]
 pub extern "C" fn zk_open(

@@ -11,6 +11,7 @@ use Rattle.clap.specs.declared.ArgMatches.{ArgMatches}
 use Rattle.clap.specs.declared.Error.{Error}
 use Rattle.clap.specs.declared.error.ErrorKind.{ErrorKind}
 use Rattle.clap.specs.declared.error.ErrorKind.TheVariants as kind
+use Rattle.zk_mem.specs.Fresh.{plain_screen}
 use Rattle.zk_vm.specs.declared.limits.Limits.{Limits}
 use Rattle.zk_vm.specs.Bounds.{AreInRange}
 use Rattle.zk_step.specs.declared.state.game_state.View.{View}
@@ -235,12 +236,13 @@ MaySayAmount rows option least most word None = first_of option rows ≡ None
 MaySayAmount rows option least most word (Some a) =
     IsSomeAnd (first_of option rows) (λ argument. IsAmount least most word argument a)
 
--- what clap found says the limits of a run
+-- what clap found says the limits of a run; its screen has 80 columns, and text of one width alone
 pub record SaysLimits (rows : List Row) (l : Limits) : Type 0 where
   pub frames : SaysNumber rows (codes "frames") 1 65535 l.frames
   pub words : SaysNumber rows (codes "words") 0 65535 l.words
   pub steps : SaysNumber rows (codes "steps") 1 1000000000 l.steps
   pub undo : SaysNumber rows (codes "undo") 0 64 l.undo
+  pub screen : l.screen ≡ plain_screen
 
 -- a flag is given, by the text that clap has for it: `true` where it is
 abbrev pub flag_said : Option Text → Bool

@@ -29,6 +29,7 @@ use clap::error::ErrorKind;
 use clap::{Arg, ArgAction, ArgMatches, Command, Error};
 use std::alloc::{AllocError, Global};
 use zk_inspect::section::{SECTIONS, Section};
+use zk_mem::memory::ScreenSetup;
 use zk_step::state::game_state::View;
 use zk_vm::limits::Limits;
 
@@ -324,6 +325,7 @@ fn limits_of(alloc: Global, play: &ArgMatches<'_>) -> Result<Limits, Error>
         words: words as u16,
         undo: undo as u8,
         steps: steps as u32,
+        screen: ScreenSetup::plain(),
     })
 }
 

@@ -7,6 +7,7 @@ use crate::choice::number_from;
 use crate::options::{FRAMES, NumberOption, SEED, STEPS, UNDO, WIDTH, WORDS};
 use crate::settings::Settings;
 use thiserror::Error;
+use zk_mem::memory::ScreenSetup;
 use zk_step::state::game_state::View;
 use zk_vm::limits::Limits;
 
@@ -60,6 +61,7 @@ impl Manner {
             words: 16_384,
             undo: 16,
             steps: 10_000_000,
+            screen: ScreenSetup::plain(),
         };
         Manner {
             settings: Settings {

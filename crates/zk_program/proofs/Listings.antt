@@ -8,7 +8,7 @@ use Rattle.std.proofs.KnownBytes.{Appends-trans}
 use Rattle.std.specs.Io.KnownBytes.{Appends}
 use Rattle.zk_mem.specs.Map.{MemoryMap}
 use Rattle.zk_term.specs.Devices.{Device, device}
-use Rattle.zk_mem.specs.Fresh.{fresh}
+use Rattle.zk_mem.specs.Fresh.{fresh, plain_setup}
 use Rattle.zk_mem.specs.Story.{refusal}
 use Rattle.zk_vm.specs.declared.stop.Stop.TheVariants.{EndOfInput, Memory, Quit, Read, Write, Fault as FaultAt}
 use Rattle.zk_vm.specs.declared.stop.Stop.TheVariants.{Limit as LimitAt}
@@ -56,7 +56,7 @@ alone (Some path) file story read none = tt
 
 -- a story has ended its listing
 pub opened : (listing : Listing) (path file : Option (List ℕ)) (old new : Device) (story : List ℕ) (exit : Exit)
-    → AreRead file story → refusal story ≡ None → IsListed listing (fresh story 16) path old new exit
+    → AreRead file story → refusal story ≡ None → IsListed listing (fresh story (plain_setup 16)) path old new exit
     → EndsListing listing path file old new exit
 opened listing path file old new story (Unread e) read none h = absurd h
 opened listing path file old new story (Refused e) read none h = absurd h

@@ -1,5 +1,6 @@
 -- A story with no findings has clean code.
 use Rattle.std.proofs.Common.{◌≡◌, ℕ, List, [], None, Result, Ok, Err, refl, sym, subst}
+use Rattle.zk_mem.specs.declared.memory.Setup.{Setup}
 use Rattle.zk_mem.specs.declared.fault.Fault.{Fault}
 use Rattle.zk_mem.specs.Fresh.{fresh}
 use Rattle.zk_mem.specs.Map.{MemoryMap, HasBytes}
@@ -45,7 +46,7 @@ pub has_clean_runs : (m : MemoryMap) (fs : List Finding) → HasBytes m → IsSt
     → HasCleanRuns m
 has_clean_runs m fs bytes start h e =
     let code = clean m bytes ((findings_are_all m fs h).none.0 e) in
-    let runs = stays_clean m.file m.undo_states (IsReached m) start.story
+    let runs = stays_clean m.file m.setup (IsReached m) start.story
     (subst (λ (n : MemoryMap). IsClean n (IsReached m)) start.fresh_is code) in
     record { code = code; runs = runs; stops = stops_read m.file (IsReached m) runs }
 
@@ -57,6 +58,6 @@ pub clean_where_none : CleanWhereNone
 clean_where_none m bytes start h = has_clean_runs m [] bytes start h refl
 
 -- a memory that was started from a story is at its start
-pub starts : (m : MemoryMap) (story : List ℕ) (k : ℕ) → m ≡ fresh story k → refusal story ≡ None → IsStart m
+pub starts : (m : MemoryMap) (story : List ℕ) (k : Setup) → m ≡ fresh story k → refusal story ≡ None → IsStart m
 unfolding fresh
 starts m story k e is = subst IsStart (sym e) (record { story = is; fresh_is = refl })

@@ -2,7 +2,7 @@
 use Rattle.std.specs.Prelude.{◌≡◌, ◌≢◌, ◌⊎◌, ℕ, Bool, true, false, List, [], ◌∷◌, ◌++◌, map, Option, Some, None, Result}
 use Rattle.std.specs.Prelude.{Ok, Err}
 use Rattle.std.specs.Io.KnownBytes.{Appends}
-use Rattle.zk_mem.specs.Fresh.{fresh}
+use Rattle.zk_mem.specs.Fresh.{fresh, plain_setup}
 use Rattle.zk_mem.specs.Map.{MemoryMap}
 use Rattle.zk_mem.specs.Story.{refusal}
 use Rattle.zk_term.specs.Devices.{Device}
@@ -125,4 +125,4 @@ IsStoryAlone (Some path) file = Unit {0}
 abbrev pub EndsListing : Listing → Option (List ℕ) → Option (List ℕ) → Device → Device → Exit → Type 0
 EndsListing listing path file old new (Stopped Write) = (new.failed ≡ true) × IsStoryAlone path file
 EndsListing listing path file old new exit =
-    EndsBy file (SaysWhy path old new exit) (λ story. IsListed listing (fresh story 16) path old new) exit
+    EndsBy file (SaysWhy path old new exit) (λ story. IsListed listing (fresh story (plain_setup 16)) path old new) exit

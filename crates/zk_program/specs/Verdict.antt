@@ -11,7 +11,7 @@ use Rattle.zk_vm.specs.Inside.{StaysClean, StopsRead}
 -- a memory at the start of a story (Standard, section 11.1)
 pub record IsStart (m : MemoryMap) : Type 0 where
   pub story : refusal m.file ≡ None
-  pub fresh_is : m ≡ fresh m.file m.undo_states
+  pub fresh_is : m ≡ fresh m.file m.setup
 
 -- the code that a story reaches is clean, and so are its runs
 pub record HasCleanRuns (m : MemoryMap) : Type 0 where

@@ -29,7 +29,7 @@ use zk_term::screen::Screen;
 use zk_term::source::Source;
 use zk_term::style::Style;
 use zk_term::target::{Failed, Target};
-use zk_term::windows::Windows;
+use zk_term::windows::{Cell, Windows};
 use zk_vm::machine::{Machine, is_read};
 use zk_vm::play::{answer, next_line, run_on, serve};
 use zk_vm::slot::SaveSlot;
@@ -65,11 +65,11 @@ fn show_status<S: Screen>(screen: &mut S, memory: &Memory) {
     }
 }
 
-/// The characters of a row, as far as they fit beside its bar.
-fn row_within(windows: &Windows, row: u8, width: Option<u8>) -> &[char]
+/// The cells of a row, as far as they fit beside its bar.
+fn row_within(windows: &Windows, row: u8, width: Option<u8>) -> &[Cell]
     requires { 1 ≤ row }
 {
-    let characters = if row <= windows.height() {
+    let cells = if row <= windows.height() {
         windows.row(row)
     } else {
         windows.tallest_row(row)
@@ -77,18 +77,18 @@ fn row_within(windows: &Windows, row: u8, width: Option<u8>) -> &[char]
     match width {
         Some(width) => {
             let most = (width as usize).saturating_sub(2);
-            &characters[..characters.len().min(most)]
+            &cells[..cells.len().min(most)]
         }
-        None => characters,
+        None => cells,
     }
 }
 
 /// Shows a row on a line, after a bar and a space.
-fn show_row<S: Screen>(screen: &mut S, characters: &[char]) {
+fn show_row<S: Screen>(screen: &mut S, cells: &[Cell]) {
     screen.text('|', Style::roman());
     screen.text(' ', Style::roman());
-    for c in characters {
-        screen.text(*c, Style::roman());
+    for cell in cells {
+        screen.text(cell.character, Style::roman());
     }
     screen.text('\n', Style::roman());
 }

@@ -1,7 +1,7 @@
 // Listings of a story, from the bytes of its file to the screen.
 
 ghost use Rattle.std.specs.Prelude.{◌≡◌, false, true, is_err, IfOk, None, Some, option_map};
-ghost use Rattle.zk_mem.specs.Fresh.{fresh};
+ghost use Rattle.zk_mem.specs.Fresh.{fresh, plain_setup};
 ghost use Rattle.zk_mem.specs.Story.{refusal};
 ghost use Rattle.zk_term.specs.Devices.{device};
 ghost use Rattle.zk_inspect.specs.Facts.{GaveBy};
@@ -26,7 +26,7 @@ use zk_inspect::fact::{Fact, FactList, FactWriter};
 use zk_inspect::listing::{list_reached, list_section, list_whole};
 use zk_inspect::plain_text::PlainText;
 use zk_inspect::section::Section;
-use zk_mem::memory::{Memory, Setup};
+use zk_mem::memory::{Memory, ScreenSetup, Setup};
 use zk_mem::story::Story;
 use zk_term::line_writer::{LineWriter, TargetWriter};
 use zk_term::target::{Failed, Target};
@@ -247,11 +247,12 @@ fn list_story<S: Target>(
     screen: &mut S,
 ) -> Exit
     requires { refusal story ≡ None }
-    ensures { IsListed listing.entry (fresh story 16) (option_map (λ p. p.now) about.now.heading)
+    ensures { IsListed listing.entry (fresh story (plain_setup 16)) (option_map (λ p. p.now) about.now.heading)
         (device S.taken S.failed screen.old) (device S.taken S.failed screen.new) result }
 {
     let setup = Setup {
         undo_states: UNDO_STATES,
+        screen: ScreenSetup::plain(),
     };
     let Ok(()) = write_heading(screen, about.heading, None) else {
         return Exit::Stopped(Stop::Write);
@@ -283,6 +284,7 @@ pub fn open_listed<R: Read + Drop>(alloc: Global, reader: R, about: &About) -> R
     };
     let setup = Setup {
         undo_states: UNDO_STATES,
+        screen: ScreenSetup::plain(),
     };
     match Memory::start(alloc, story, setup) {
         Ok(memory) => Ok(memory),

@@ -14,6 +14,7 @@ use std::alloc::{AllocError, Global};
 use std::io::{self, ErrorKind};
 use zk_command::arguments::NO_TEXT;
 use zk_mem::fault::Fault;
+use zk_mem::memory::ScreenSetup;
 use zk_mem::story::OpenError;
 use zk_state::refusal::Limit;
 use zk_system::reason::Reason;
@@ -137,6 +138,7 @@ fn words_on_limit(alloc: Global, limit: Limit, limits: &Limits) -> Result<String
         words,
         undo: _,
         steps,
+        screen: _,
     } = *limits;
     match limit {
         Limit::Frames => {
@@ -344,6 +346,7 @@ pub fn report_listing<E: Target>(alloc: Global, exit: &Exit, about: &About, erro
         words: 0,
         undo: 0,
         steps: 1,
+        screen: ScreenSetup::plain(),
     };
     report(alloc, exit, &none, about, errors)
 }

@@ -154,7 +154,8 @@ pub cells_size : (cs : List Cell) → length (flat_map cell_bytes cs) ≡ 4 * le
 cells_size [] = refl
 cells_size (c ∷ cs) = omega (arith, cells_size cs)
 
-pub same_cells_of : (ws vs : List Cell) → length ws ≡ length vs → flat_map cell_bytes ws ≡ flat_map cell_bytes vs → ws ≡ vs
+pub same_cells_of : (ws vs : List Cell) → length ws ≡ length vs → flat_map cell_bytes ws ≡ flat_map cell_bytes vs
+    → ws ≡ vs
 same_cells_of [] [] e h = refl
 same_cells_of [] (v ∷ vs) e h = absurd (omega (arith, e))
 same_cells_of (w ∷ ws) [] e h = absurd (omega (arith, e))

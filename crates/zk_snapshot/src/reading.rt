@@ -9,6 +9,7 @@ ghost use Rattle.zk_step.specs.Laws.{fixed_parts};
 ghost use Rattle.zk_term.specs.Windows.{first_windows};
 ghost use Rattle.zk_vm.specs.Step.{is_read};
 
+use crate::writing::style_byte;
 use arrayvec::ArrayVec;
 use std::alloc::AllocError;
 use zk_mem::memory::{Memory, ScreenSetup};
@@ -20,7 +21,6 @@ use zk_step::state::ending::Event;
 use zk_step::state::game_state::View;
 use zk_step::state::random::Generators;
 use zk_term::windows::{Window, Windows};
-use crate::writing::style_byte;
 use zk_vm::limits::Limits;
 use zk_vm::machine::parts::Place;
 

@@ -6,7 +6,7 @@ use std::io::{self, Write};
 use std::test::Fail;
 use zk_inspect::listing::list_reached;
 use zk_inspect::plain_text::PlainText;
-use zk_mem::memory::{Memory, Setup};
+use zk_mem::memory::{Memory, ScreenSetup, Setup};
 use zk_mem::story::Story;
 use zk_term::io_device::IoDevice;
 use zk_term::line_writer::TargetWriter;
@@ -32,7 +32,7 @@ pub(crate) fn story_from(
     let mut file = header.to_vec(alloc)?;
     file.extend_from_slice(code)?;
     let story = Story::open(alloc, file.as_slice())?;
-    Ok(Memory::start(alloc, story, Setup { undo_states: 16 })?)
+    Ok(Memory::start(alloc, story, Setup { undo_states: 16, screen: ScreenSetup::plain() })?)
 }
 
 /// The disassembly of such a story.

@@ -7,6 +7,7 @@ use std::alloc::Global;
 use std::io::{self, Write};
 use std::process::Abort;
 use std::test::Fail;
+use zk_mem::memory::ScreenSetup;
 use zk_fast::places::Unnoted;
 use zk_mem::story::Story;
 use zk_state::refusal::Limit;
@@ -25,6 +26,10 @@ pub(crate) const AMPLE: Limits = Limits {
     words: 1,
     undo: 64,
     steps: 1_000_000_000,
+    screen: ScreenSetup {
+        columns: 80,
+        styles: false,
+    },
 };
 
 /// A machine of a story of version 5, with this code at address 64.

@@ -5,6 +5,7 @@ use crate::tests_same::{demand, same};
 use std::cell::Cell;
 use std::io::{self, Read, Write};
 use std::test::Fail;
+use zk_mem::memory::ScreenSetup;
 use zk_fast::places::Unnoted;
 use zk_step::state::ending::Event;
 use zk_term::io_device::IoDevice;
@@ -19,6 +20,10 @@ pub(crate) const AMPLE: Limits = Limits {
     words: 9,
     undo: 0,
     steps: 99,
+    screen: ScreenSetup {
+        columns: 80,
+        styles: false,
+    },
 };
 
 /// Counts the bytes that it takes.

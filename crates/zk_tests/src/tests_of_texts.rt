@@ -4,7 +4,7 @@ use crate::tests_same::same;
 use std::alloc::Global;
 use std::test::Fail;
 use zk_mem::fault::Fault;
-use zk_mem::memory::{Memory, Setup};
+use zk_mem::memory::{Memory, ScreenSetup, Setup};
 use zk_mem::story::Story;
 use zk_text::key::key;
 use zk_text::text::check_text;
@@ -30,7 +30,7 @@ pub(crate) fn memory_of(
         }
     }
     let story = Story::open(alloc, file.as_slice())?;
-    Ok(Memory::start(alloc, story, Setup { undo_states: 0 })?)
+    Ok(Memory::start(alloc, story, Setup { undo_states: 0, screen: ScreenSetup::plain() })?)
 }
 
 /// A word address of an abbreviation, the abbreviation, and a text at $44 that uses it.

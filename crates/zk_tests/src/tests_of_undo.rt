@@ -3,7 +3,7 @@
 use crate::tests_same::same;
 use std::process::Abort;
 use std::test::Fail;
-use zk_mem::memory::{Memory, Setup};
+use zk_mem::memory::{Memory, ScreenSetup, Setup};
 use zk_mem::story::Story;
 use zk_save::undo::Undo;
 use zk_state::frames::Frames;
@@ -18,7 +18,7 @@ pub(crate) fn started(rt: &(impl Abort + AllocGlobal)) -> Result<Memory, Fail> {
     bytes[0x5f] = 9;
     bytes[0x60] = 9;
     let story = Story::open(rt.alloc(), bytes.as_slice())?;
-    Ok(Memory::start(rt.alloc(), story, Setup { undo_states: 2 })?)
+    Ok(Memory::start(rt.alloc(), story, Setup { undo_states: 2, screen: ScreenSetup::plain() })?)
 }
 
 /// The first frame, with a word.

@@ -4,7 +4,7 @@ use crate::tests_same::same;
 use std::alloc::Global;
 use std::test::Fail;
 use zk_mem::fault::Fault;
-use zk_mem::memory::{Memory, Setup};
+use zk_mem::memory::{Memory, ScreenSetup, Setup};
 use zk_mem::story::Story;
 use zk_tables::dictionary::Dictionary;
 use zk_tables::parsing::tokenise;
@@ -54,7 +54,7 @@ pub(crate) fn story(
     bytes[0x07] = 0x40;
     bytes[0x0f] = static_base;
     let story = Story::open(alloc, &bytes)?;
-    Ok(Memory::start(alloc, story, Setup { undo_states: 0 })?)
+    Ok(Memory::start(alloc, story, Setup { undo_states: 0, screen: ScreenSetup::plain() })?)
 }
 
 /// Whether the bytes that hexadecimal digits say stand from an address on.

@@ -98,7 +98,8 @@ back_to s i w (Some (m, f, pc, others)) = goes_to s others (resumed (record w { 
 -- what becomes of an instruction that asks something of the machine; it has printed nothing
 abbrev pub asked : State → Instr → GameState → Request → Step
 asked s i w (request.Answer event) = waits_by s i event (view_before event w)
-asked s i w request.SaveUndo = goes_to s (with_kept s i w) (result_answered w i (kept_answer w.memory.setup.undo_states) true)
+asked s i w request.SaveUndo = goes_to s (with_kept s i w)
+    (result_answered w i (kept_answer w.memory.setup.undo_states) true)
 asked s i w request.RestoreUndo = back_to s i w (gone_back s.undo w.memory w.frames)
 asked s i w request.Quit = Quits
 

@@ -25,6 +25,10 @@ impl Limits {
     pub fn check(&self) -> bool
         ensures { IsTrue result ↔ AreInRange self.now }
     {
-        self.frames >= 1 && self.undo <= 64 && self.steps >= 1 && self.steps <= 1_000_000_000 && self.screen.columns >= 20
+        self.frames >= 1
+            && self.undo <= 64
+            && self.steps >= 1
+            && self.steps <= 1_000_000_000
+            && self.screen.columns >= 20
     }
 }

@@ -93,7 +93,8 @@ no_more : (x y c : Cell) (cs : List Cell) (p : Bool) → (if p then [] else x �
 no_more x y c cs true h = absurd cc
 no_more x y c cs false h = let none : ◌≡◌ {A = List Cell} [] (c ∷ cs) = cons_tail x y [] (c ∷ cs) h in absurd cc
 
-before_same : (x y : Cell) (p q : List Cell) → before_blanks is_blank x p ≡ before_blanks is_blank y q → (x ≡ y) × (p ≡ q)
+before_same : (x y : Cell) (p q : List Cell) → before_blanks is_blank x p ≡ before_blanks is_blank y q
+    → (x ≡ y) × (p ≡ q)
 before_same x y [] [] h = (blank_or x y (is_blank x) (is_blank y) refl refl h, refl)
 before_same x y [] (c ∷ cs) h = absurd (no_more x y c cs (is_blank x) h)
 before_same x y (c ∷ cs) [] h = absurd (no_more y x c cs (is_blank y) (sym h))

@@ -19,7 +19,8 @@ use Rattle.zk_step.specs.declared.state.ending.Request.TheVariants as request
 use Rattle.zk_step.specs.declared.state.game_state.View.TheVariants as view
 use Rattle.zk_step.specs.declared.state.game_state.GameState.{GameState}
 use Rattle.zk_step.specs.Endings.{ends, gives, tests}
-use Rattle.zk_step.specs.guards.Examples.{first_here, memory_of, routine_with, caller_with, working, in_routine, instruction}
+use Rattle.zk_step.specs.guards.Examples.{first_here, memory_of, routine_with, caller_with, working, in_routine}
+use Rattle.zk_step.specs.guards.Examples.{instruction}
 use Rattle.zk_step.specs.guards.InstructionExamples.{silent, waiting}
 use Rattle.zk_step.specs.Finish.{finished}
 use Rattle.zk_step.specs.Inputs.{result_answered}
@@ -66,8 +67,14 @@ file_with_sum high low = 3 ∷ replicate 26 0 ++ 33 ∷ high ∷ low ∷ replica
 
 -- a memory of this file, all of whose bytes the story has changed
 abbrev pub changed_memory : List ℕ → MemoryMap
-changed_memory file = record { version = 3; static_base = 66; bytes = replicate 66 7; file = file; setup =
-    plain_setup 0 }
+changed_memory file = record {
+  version = 3;
+  static_base = 66;
+  bytes = replicate 66 7;
+  file = file;
+  setup =
+      plain_setup 0;
+}
 
 -- the file's own bytes are summed, in 16 bits, and the checksum's high byte comes first (section 15, `verify`)
 abbrev pub SumsAreVerified : Type 0

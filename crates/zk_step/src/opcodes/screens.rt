@@ -83,13 +83,7 @@ fn font_now(windows: &Windows, styles: bool) -> u16
     }
     match windows.selected() {
         Window::Upper => 4,
-        Window::Lower => {
-            if windows.is_font_fixed() {
-                4
-            } else {
-                1
-            }
-        }
+        Window::Lower => { if windows.is_font_fixed() { 4 } else { 1 } }
     }
 }
 

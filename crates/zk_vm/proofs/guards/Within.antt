@@ -74,7 +74,8 @@ asked_so : (s : State) (i : Instr) (v : GameState) (shown : Signals) (x : Reques
 asked_so s i v shown (request.Answer event) c =
     let so = asks s.game i v (request.Answer event) shown c in
     waits_so s i event v (taken_pops s.game v i.operands so.values so.operands)
-asked_so s i v shown request.SaveUndo c = goes_no_wait s _ (result_answered v i (kept_answer v.memory.setup.undo_states) true)
+asked_so s i v shown request.SaveUndo c = goes_no_wait s _
+    (result_answered v i (kept_answer v.memory.setup.undo_states) true)
 asked_so s i v shown request.RestoreUndo c = back_no_wait s i v (gone_back s.undo v.memory v.frames)
 asked_so s i v shown request.Quit c = λ t w text h. absurd cc
 

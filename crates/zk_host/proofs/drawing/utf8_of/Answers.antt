@@ -12,8 +12,11 @@ loop-cell-preserved c =
     let d : ℕ = c.cell-item.result.character in
     let there : d ≡ get_or (map character_of cells) i d = ap character_of c.cell-item.is
     ∙ sym (get_or-map character_of cells i c.cell-item.result d c.loop-cell-test.true) in
-    let within : i < length (map character_of cells) = omega (arith, length-map cells character_of,
-    c.loop-cell-test.true) in
+    let within : i < length (map character_of cells) = omega (
+      arith,
+      length-map cells character_of,
+      c.loop-cell-test.true,
+    ) in
     let bytes = c.as_bytes.ensures.value ∙ c.encode_utf8.ensures.value ∙ ap encode_utf8 there in
     let added = c.in-Ok.ensures.ok ∙ ap (λ (b : List ℕ). c.loop-cell.bytes.items ++ b) bytes in
     record {
