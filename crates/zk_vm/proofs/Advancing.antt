@@ -258,7 +258,7 @@ stands_back m n w fixed same =
 -- or there is no memory for the state
 pub is_keeping : (m : Inside) (i : Instr) (w : GameState) (vs : List ℕ) → instr_at m.game.memory m.pc ≡ Ok i
     → KeepsState i → operands_read m.game i.operands ≡ Ok (w, vs) → 0 < w.memory.setup.undo_states
-        → IsKeeping (state_seen m)
+    → IsKeeping (state_seen m)
 is_keeping m i w vs h keeps taken some =
     let fixed = carried_fixed m.game i w (Asks SaveUndo) no_signals (keeps_asks m.game w i vs keeps taken) in
     record {

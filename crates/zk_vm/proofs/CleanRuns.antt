@@ -31,6 +31,7 @@ use Rattle.zk_step.specs.Laws.{IsOneStory, KeepsStory, is_of_reading}
 use Rattle.zk_step.specs.Routing.{Signals}
 use Rattle.zk_step.proofs.Inside.{ends_inside, goes_inside, next_inside, read_inside}
 use Rattle.zk_step.proofs.Sweep.{Anywhere, ResumesInto, ends_anywhere, leads_anywhere, return_anywhere}
+use Rattle.zk_vm.specs.Bounds.{setup_of}
 use Rattle.zk_vm.specs.declared.limits.Limits.{Limits}
 use Rattle.zk_vm.specs.declared.stop.Stop.{Stop}
 use Rattle.zk_vm.specs.declared.stop.Stop.TheVariants.{Fault as FaultAt, Limit as LimitAt}
@@ -76,8 +77,8 @@ begins : (story : List ℕ) (k : Setup) (P : ℕ → Type 0) (seed : ℕ) (l : L
 unfolding begun
 begins story k P seed l view is first = record {
   state = record {
-    memory = fresh_keeps story l.undo is;
-    story = fresh_story story k l.undo;
+    memory = fresh_keeps story (setup_of l) is;
+    story = fresh_story story k (setup_of l);
     pc = first;
     returns = tt;
     undo = All-nil (KeptIn (fresh story k) P);

@@ -24,7 +24,7 @@ use Rattle.zk_code.specs.Reading.{text_at, instr_at}
 use Rattle.zk_code.specs.Table.{two_operand, one_operand, zero_operand, variable_operand, extended, name_of}
 use Rattle.zk_code.specs.Targets.{offset_target, branch_target, jump_target}
 use Rattle.zk_term.specs.Windows.{first_windows, split, window_selected, character_printed, next_row, printed}
-use Rattle.zk_term.specs.Windows.{without_last_blanks, columns_from, row_text}
+use Rattle.zk_term.specs.Windows.{without_last, columns_from, row_text}
 use Rattle.zk_text.specs.Alphabets.{alphabet_table, letter_by}
 use Rattle.zk_text.specs.Extra.{words_from, unicode_table, words_at_table, own_characters, character, code_from}
 use Rattle.zk_text.specs.Extra.{code_of, small_letter, lower_code}
@@ -77,7 +77,7 @@ unfolding step passed parts_of after begun goes_by_variable loads_file NoneLeave
     line_answered result_answered character_answered bytes_put early_line_put later_line_put divided_into_words line_put
     while_short heard begins_with_characters character_length characters_past Characters.characters_of line_codes
     rows_shown lines_shown window_effect stream_selected stream_changed upper_printed kept_of split window_selected
-    character_printed next_row printed without_last_blanks columns_from row_text on_grid no_cells emptied cell_put
+    character_printed next_row printed without_last columns_from row_text on_grid no_cells emptied cell_put
 examples = tt
 
 -- the definitions that are opened in saving examples

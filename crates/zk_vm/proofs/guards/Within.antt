@@ -2,6 +2,7 @@
 use Rattle.std.proofs.Common.{◌≡◌, ◌∙◌, ◌≤◌, ◌<◌, ◌+◌, ◌&&◌, ℕ, Bool, true, false, List, [], Option, Some, None, Result}
 use Rattle.std.proofs.Common.{Ok, refl, ap, sym, subst, arith, nat_le, length}
 use Rattle.std.proofs.lemmas.Bool.Decides.{nat_tests}
+use Rattle.zk_mem.specs.declared.memory.Setup.{Setup}
 use Rattle.zk_mem.specs.declared.fault.Fault.{Fault}
 use Rattle.zk_mem.specs.Map.{MemoryMap}
 use Rattle.zk_state.specs.Frames.{FrameList, bounds_of, sizes_of, within_bounds}
@@ -22,7 +23,7 @@ use Rattle.zk_step.specs.Routing.{Signals, no_signals}
 use Rattle.zk_vm.specs.declared.limits.Limits.{Limits}
 use Rattle.zk_vm.specs.declared.waiting.Waiting.{Waiting}
 use Rattle.zk_vm.specs.Answers.{Answer, answered}
-use Rattle.zk_vm.specs.Bounds.{AreInRange}
+use Rattle.zk_vm.specs.Bounds.{AreInRange, setup_of}
 use Rattle.zk_vm.specs.Laws.{KeepsLimits, MayAnswer, RunsStayWithin}
 use Rattle.zk_vm.specs.Log.{Move}
 use Rattle.zk_vm.specs.Sessions.{Session, begun}
@@ -36,7 +37,7 @@ use Rattle.zk_vm.proofs.guards.GreaterRoom.{answered_bounds}
 use Rattle.zk_vm.proofs.Moves.{IsKeptBy, after_keeps}
 use Rattle.zk_vm.proofs.OneStep.{step_all, waits_same}
 use Rattle.zk_vm.proofs.guards.Popping.{Pops, pops_twice, shown_pops, taken_pops}
-use Rattle.zk_vm.proofs.Sounds.{first_undo}
+use Rattle.zk_vm.proofs.Sounds.{first_setup}
 
 -- ---- a step that waits
 
@@ -217,7 +218,7 @@ begins : (story : List ℕ) (seed : ℕ) (l : Limits) (view : View) → AreInRan
 unfolding begun bounds_of sizes_of
 begins story seed l view range = record {
   bounds = refl;
-  most = first_undo story l.undo;
+  most = ap (λ (s : Setup). s.undo_states) (first_setup story (setup_of l));
   within = record {
     frames = range.frames;
     words = omega arith;

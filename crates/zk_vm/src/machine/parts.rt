@@ -5,7 +5,7 @@ ghost use Rattle.std.specs.Prelude.{◌≡◌, ◌≤◌, ◌<◌, ◌^◌, true
 ghost use Rattle.zk_code.specs.Reading.{instr_at};
 ghost use Rattle.zk_save.specs.States.{states_in, AreOf};
 ghost use Rattle.zk_state.specs.Frames.{bounds_of};
-ghost use Rattle.zk_vm.specs.Bounds.{AreInRange};
+ghost use Rattle.zk_vm.specs.Bounds.{AreInRange, setup_of};
 ghost use Rattle.zk_vm.specs.Parts.{asking_of, place_of, waiting_with};
 ghost use Rattle.zk_vm.specs.Step.{is_read};
 
