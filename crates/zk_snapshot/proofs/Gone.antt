@@ -18,6 +18,9 @@ pub row_gone : (column : ℕ) (w : Windows) → NothingGone w → NothingGone (n
 unfolding next_row
 row_gone column w h = h
 
+pub font_gone : (fixed : Bool) (w : Windows) → NothingGone w → NothingGone (record w { fixed_font = fixed })
+font_gone fixed w h = h
+
 put_by : (x : Bool) (w v : Windows) → NothingGone w → NothingGone v → NothingGone (if x then v else w)
 put_by true w v h k = k
 put_by false w v h k = h

@@ -2,6 +2,7 @@
 use Rattle.std.specs.Prelude.{ℕ, zero, suc, ◌+◌, ◌-◌, ◌*◌, ◌/◌, ◌%◌, Bool, true, false, List, [], ◌∷◌, ◌++◌, length}
 use Rattle.std.specs.Prelude.{take, reverse, nat_le, if◌then◌else◌, Option, Some, None}
 use Rattle.std.specs.List.{flat_map}
+use Rattle.zk_mem.specs.declared.memory.ScreenSetup.{ScreenSetup}
 use Rattle.zk_mem.specs.Header.{header_of}
 use Rattle.zk_state.specs.Frames.{Frame, frames_of}
 use Rattle.zk_save.specs.Quetzal.{bytes_2, bytes_4, words_bytes}
@@ -66,11 +67,14 @@ story_bytes file = bytes_4 (length file) ++ bytes_2 (header_of file).release ++ 
 
 -- ---- the machine
 
--- limits, in 11 bytes: frames, words, states to go back to, steps, and of the screen its columns and whether it has
--- styles
+-- what a story is told of its screen, in 2 bytes: its columns, and whether it has styles
+abbrev pub screen_bytes : ScreenSetup → List ℕ
+screen_bytes s = s.columns ∷ truth_byte s.styles ∷ []
+
+-- limits, in 11 bytes: frames, words, states to go back to, steps, and the screen
 unfoldable pub limits_bytes : Limits → List ℕ
 limits_bytes l = bytes_2 l.frames ++ bytes_2 l.words ++ l.undo ∷ [] ++ bytes_4 l.steps
-    ++ l.screen.columns ∷ truth_byte l.screen.styles ∷ []
+    ++ screen_bytes l.screen
 
 -- where the run stands, in 12 bytes: the program counter, steps, reads
 unfoldable pub place_bytes : Place → List ℕ

@@ -260,7 +260,7 @@ fn put_last_again(windows: &mut Windows, width: u8)
 }
 
 /// Fills windows that are new, and have so many columns.
-#[tactic(auto, using(crate::proofs::Gone::split_gone, crate::proofs::Gone::select_gone))]
+#[tactic(auto, using(crate::proofs::Gone::split_gone, crate::proofs::Gone::select_gone, crate::proofs::Gone::font_gone))]
 pub(crate) fn fill_windows(reader: &mut Reader<'_>, windows: &mut Windows, width: u8)
     requires { windows.old ≡ first_windows width }
     ensures { NothingGone windows.new }
@@ -272,8 +272,9 @@ pub(crate) fn fill_windows(reader: &mut Reader<'_>, windows: &mut Windows, width
     let column = reader.word();
     let upper = reader.truth();
     let style = reader.byte();
-    windows.set_font(reader.truth());
+    let fixed = reader.truth();
     windows.split(4, height as u16);
+    windows.set_font(fixed);
     if upper {
         windows.select(Window::Upper);
     }

@@ -120,5 +120,5 @@ pub fn longest_snapshot(machine: &Machine, most: usize) -> usize
 {
     let limits = machine.limits();
     let room = 10 * limits.frames as usize + 2 * limits.words as usize;
-    most.saturating_add(82008 + machine.memory().dynamic().len() + room)
+    most.saturating_add(260513 + machine.memory().dynamic().len() + room)
 }

@@ -7,13 +7,13 @@ ghost use Rattle.zk_state.specs.Frames.{frames_of};
 ghost use Rattle.std.specs.List.{flat_map};
 ghost use Rattle.zk_snapshot.specs.Snapshots.{bytes_8, truth_byte, store_bytes, state_bytes, story_bytes, limits_bytes};
 ghost use Rattle.zk_snapshot.specs.Snapshots.{place_bytes, event_bytes, view_byte, window_byte, style_byte};
-ghost use Rattle.zk_snapshot.specs.Snapshots.{cell_bytes, generators_bytes};
+ghost use Rattle.zk_snapshot.specs.Snapshots.{cell_bytes, generators_bytes, screen_bytes};
 ghost use Rattle.zk_snapshot.specs.Snapshots.{row_bytes, rows_bytes, windows_bytes, frame_bytes, frames_bytes};
 ghost use Rattle.zk_snapshot.specs.Snapshots.{table_bytes, streams_bytes, game_bytes, head_bytes};
 
 use crate::sums::sum_of;
 use std::alloc::AllocError;
-use zk_mem::memory::Memory;
+use zk_mem::memory::{Memory, ScreenSetup};
 use zk_state::frames::{FrameView, Frames};
 use zk_step::output::streams::{OpenTable, Streams};
 use zk_step::state::ending::Event;
@@ -164,8 +164,17 @@ pub(crate) fn put_head(out: &mut Vec<u8>, memory: &Memory) -> Result<(), AllocEr
     ensures { OnOk result (out.new.items ≡ out.old.items ++ head_bytes memory.now.file) }
 {
     out.extend_from_slice(&[90, 75, 83, 78])?;
-    out.push(3)?;
+    out.push(4)?;
     put_story(out, memory)?;
+    Ok(())
+}
+
+/// Writes what a story is told of its screen.
+fn put_screen(out: &mut Vec<u8>, screen: ScreenSetup) -> Result<(), AllocError>
+    ensures { OnOk result (out.new.items ≡ out.old.items ++ screen_bytes screen) }
+{
+    out.push(screen.columns)?;
+    out.push(truth_byte(screen.styles))?;
     Ok(())
 }
 
@@ -178,9 +187,7 @@ pub(crate) fn put_limits(out: &mut Vec<u8>, limits: Limits) -> Result<(), AllocE
     put_2(out, limits.words)?;
     out.push(limits.undo)?;
     put_4(out, limits.steps)?;
-    out.push(limits.screen.columns)?;
-    out.push(truth_byte(limits.screen.styles))?;
-    Ok(())
+    put_screen(out, limits.screen)
 }
 
 /// Writes where a run stands.
