@@ -58,3 +58,5 @@ pub gone_is_forgotten : (w : Windows) → NothingGone w → forgotten w ≡ w
 unfolding forgotten
 gone_is_forgotten w h =
     sym (ap (λ g. record w { gone = g }) h.0 ∙ ap (λ n. record w { gone = no_cells; gone_height = n }) h.1)
+
+pub ruleset of_fill_windows = (split_gone, select_gone, font_gone)

@@ -260,7 +260,7 @@ fn put_last_again(windows: &mut Windows, width: u8)
 }
 
 /// Fills windows that are new, and have so many columns.
-#[tactic(auto, using(crate::proofs::Gone::split_gone, crate::proofs::Gone::select_gone, crate::proofs::Gone::font_gone))]
+#[tactic(auto, using(crate::proofs::Gone::of_fill_windows))]
 pub(crate) fn fill_windows(reader: &mut Reader<'_>, windows: &mut Windows, width: u8)
     requires { windows.old ≡ first_windows width }
     ensures { NothingGone windows.new }
