@@ -1,6 +1,8 @@
 use Rattle.std.specs.Prelude.{encode_utf8}
 use Rattle.std.proofs.Common.{◌≡◌, ◌<◌, ◌∙◌, ◌++◌, ℕ, List, ap, arith, get_or, length, map, sym}
 use Rattle.std.proofs.lemmas.List.{get_or-map, length-map}
+use Rattle.zk_term.specs.declared.windows.Cell.{Cell}
+use Rattle.zk_term.specs.Styles.{roman}
 use Rattle.zk_term.specs.Windows.{character_of}
 use Rattle.zk_host.proofs.Encoding.{next_encoded}
 use Rattle.zk_host.proofs.drawing.utf8_of.Goals as goal
@@ -9,9 +11,10 @@ pub loop-cell-preserved : goal.loop-cell-preserved
 loop-cell-preserved c =
     let cells = c.args.cells.now in
     let i = c.loop-cell.cell-index in
-    let d : ℕ = c.cell-item.result.character in
-    let there : d ≡ get_or (map character_of cells) i d = ap character_of c.cell-item.is
-    ∙ sym (get_or-map character_of cells i c.cell-item.result d c.loop-cell-test.true) in
+    let any : Cell = record { character = 0; style = roman } in
+    let d : ℕ = character_of (get_or cells i any) in
+    let there : d ≡ get_or (map character_of cells) i d =
+    sym (get_or-map character_of cells i any d c.loop-cell-test.true) in
     let within : i < length (map character_of cells) = omega (
       arith,
       length-map cells character_of,
