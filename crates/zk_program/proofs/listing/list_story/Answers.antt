@@ -1,10 +1,11 @@
 use Rattle.std.proofs.Common.{sym}
 use Rattle.zk_program.proofs.Listings.{listed}
+use Rattle.zk_mem.specs.Fresh.{plain_setup}
 use Rattle.zk_program.proofs.Verdicts.{starts}
 use Rattle.zk_program.proofs.listing.list_story.Goals as goal
 
 pub list_text-requires : goal.list_text-requires
-list_text-requires g c = starts c.in-Ok-start.memory c.args.story 16 c.in-Ok-start.ensures c.requires
+list_text-requires g c = starts c.in-Ok-start.memory c.args.story (plain_setup 16) c.in-Ok-start.ensures c.requires
 
 pub returns-in-Ok-start : goal.returns-in-Ok-start
 returns-in-Ok-start g c =
