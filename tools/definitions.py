@@ -31,6 +31,7 @@ from collections import Counter
 from collections.abc import Iterable, Iterator, Sequence
 from dataclasses import dataclass, field
 from pathlib import Path
+from textwrap import fill
 from typing import NamedTuple
 
 TOP = Path(__file__).resolve().parent.parent
@@ -817,7 +818,7 @@ def bare_lines(book: Book) -> list[str]:
     for section, names in sorted(sections.items()):
         if not is_named(section, book.rows):
             chapters.setdefault(section.first[0], []).append(f"{section.label} ({fitting(unique(names), 60)})")
-    return ["- " + "; ".join(labels) for labels in chapters.values()]
+    return [fill("- " + "; ".join(labels), 120, subsequent_indent="  ") for labels in chapters.values()]
 
 
 def page(book: Book) -> str:
