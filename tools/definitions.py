@@ -31,7 +31,6 @@ from collections import Counter
 from collections.abc import Iterable, Iterator, Sequence
 from dataclasses import dataclass, field
 from pathlib import Path
-from textwrap import fill
 from typing import NamedTuple
 
 TOP = Path(__file__).resolve().parent.parent
@@ -818,7 +817,7 @@ def bare_lines(book: Book) -> list[str]:
     for section, names in sorted(sections.items()):
         if not is_named(section, book.rows):
             chapters.setdefault(section.first[0], []).append(f"{section.label} ({fitting(unique(names), 60)})")
-    return [fill("- " + "; ".join(labels), 120, subsequent_indent="  ") for labels in chapters.values()]
+    return [textwrap.fill("- " + "; ".join(labels), 120, subsequent_indent="  ") for labels in chapters.values()]
 
 
 def page(book: Book) -> str:
