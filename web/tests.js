@@ -805,7 +805,7 @@ function widths(module) {
         }
 }
 
-/** A story is told of styles (section 11.1), and has a font of a fixed pitch (section 8.1), where a host asks for it. */
+/** A story is told of styles (section 11.1), and has a font of a fixed pitch (section 8.1), where a host wants it. */
 function fonts(module) {
     const run = (text, styles) => ({ text, styles, before: [] });
     const told = [
