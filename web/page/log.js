@@ -2,6 +2,7 @@
 // newest blocks stand in the page, and older ones come back where the reader scrolls up to them.
 
 import { at, made } from "./at.js";
+import { USUAL } from "./columns.js";
 import { Width } from "./reflow.js";
 
 /** @typedef {"text" | "prompt" | "typed" | "note" | "box"} Kind */
@@ -85,7 +86,7 @@ export class Log {
         this.blocks = [];
         /** The part of a line after which the story reads. */
         this.held = "";
-        this.width = new Width();
+        this.width = new Width(USUAL);
         /** The first block that stands in the page, and the first in the part whose additions are spoken. */
         this.first = 0;
         this.firstNew = 0;
@@ -104,10 +105,11 @@ export class Log {
         new ResizeObserver(() => this.resized()).observe(scroller);
     }
 
-    clear() {
+    /** @param {number} columns how many the story is told */
+    clear(columns) {
         this.blocks = [];
         this.held = "";
-        this.width = new Width();
+        this.width = new Width(columns);
         this.first = this.firstNew = this.turn = 0;
         this.isStill = false;
         older.replaceChildren();
@@ -267,9 +269,12 @@ export class Log {
         return { blocks: this.blocks.slice(first), held: this.held, turn: Math.max(0, this.turn - first) };
     }
 
-    /** @param {KeptLog} it */
-    fill(it) {
-        this.clear();
+    /**
+     * @param {KeptLog} it
+     * @param {number} columns
+     */
+    fill(it, columns) {
+        this.clear(columns);
         this.blocks = it.blocks;
         this.held = it.held;
         this.turn = it.turn ?? Math.max(0, it.blocks.length - 1);
