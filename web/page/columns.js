@@ -87,8 +87,8 @@ function looksForWidth(story) {
 }
 
 /**
- * How many columns a story is told. One that never looks for them has a screen of the usual width: it places its text for
- * that.
+ * How many columns a story is told. One that never looks for them has a screen of the usual width: it places its text
+ * for that.
  * @param {Uint8Array} story
  */
 export function columnsFor(story) {

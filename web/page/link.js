@@ -1,4 +1,4 @@
-// A play as an address or a file: the story's IFID, the seed, the columns of the screen, and what was answered. The same
+// A play as an address or a file: the story's IFID, the seed, the width of its screen, and what was answered. The same
 // answers give the same play, so nothing else is needed; `told` is the sum of the text, by which the page sees that it
 // is so.
 
