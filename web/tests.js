@@ -951,6 +951,10 @@ async function worker() {
     await call("run", { answer: { saved: true } });
     const back = await call("run", { answer: { restored: saved } });
     want(back.result.awaits === "character" && back.result.rows.length === 1, "it gives the upper window back");
+    await call("open", { story: stylingCells(), options: { columns: 40 } });
+    const { result: { width, grid, rows: texts } } = await call("run", { answer: null });
+    want(width === 40 && texts.join() === "ab     c\u20acef,,", "it tells the width and the rows of the upper window");
+    want(grid.length === 3 && grid[1].length === 0 && grid[2][1].styles.join() === "reverse", "and their styles");
     await call("open", { story: readingKeys(), options: {} });
     await call("run", { answer: null });
     shown = [];
