@@ -48,6 +48,16 @@ function isSeen({ text, styles }) {
 }
 
 /**
+ * Whether a row is in reverse over so many columns.
+ * @param {RowRun[]} runs
+ * @param {number} width
+ */
+function isReverse(runs, width) {
+    const length = runs.reduce((sum, { text }) => sum + text.length, 0);
+    return length >= width && runs.every(({ styles }) => styles.includes("reverse"));
+}
+
+/**
  * What shows a run.
  * @param {RowRun} run
  */
@@ -110,6 +120,7 @@ export class Screen {
         const isEmpty = !this.status && !this.grid.flat().some(isSeen);
         upper.hidden = isEmpty;
         upper.replaceChildren();
+        upper.classList.remove("inked");
         if (isEmpty)
             return;
         if (this.status)
@@ -130,6 +141,8 @@ export class Screen {
         grid.append(...this.grid.flatMap((runs, i) => [i > 0 ? "\n" : "", ...runs.map(drawn)]));
         grid.style.fontSize = `${Math.max(SMALLEST, size)}px`;
         upper.append(grid);
+        // (the ground around rows that are in reverse as a whole looks like theirs)
+        upper.classList.toggle("inked", !this.status && this.grid.every((runs) => isReverse(runs, this.width)));
     }
 
     /** @param {string[]} texts */
