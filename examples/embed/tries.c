@@ -1021,8 +1021,8 @@ static void undo_from_snapshots(void) {
     undo_from("a snapshot with a state", game, story, SIZE_MAX);
     undo_from("a snapshot without room for it", game, story, 19);
     undo_from_plain(game, story);
-    /* 82,008 and dynamic memory, 10 for each frame, 2 for each word */
-    say("the longest", zkit_longest_snapshot(game, 0) - 82008 - 0x800);
+    /* 260,513 and dynamic memory, 10 for each frame, 2 for each word */
+    say("the longest", zkit_longest_snapshot(game, 0) - 260513 - 0x800);
     say("the same of the limits", 10 * ZKIT_FRAMES + 2 * ZKIT_WORDS);
     say("with 19 bytes of states", zkit_longest_snapshot(game, 19) - zkit_longest_snapshot(game, 0));
     say("with all that there may be", zkit_longest_snapshot(game, SIZE_MAX) == SIZE_MAX);
