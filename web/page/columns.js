@@ -56,11 +56,13 @@ export function heightOf(columns) {
     return Math.min(GREATEST * scale(), (room() - 1) / columns / widthOfLetter());
 }
 
-/** How many columns there is room for. */
+/**
+ * How many columns there is room for. A line of a wide page has about 70 letters, so the usual columns are all that fit
+ * there, by smaller ones.
+ */
 function columnsNow() {
     const fit = (/** @type {number} */ height) => Math.floor((room() - 1) / (height * scale() * widthOfLetter()));
-    const columns = fit(SMALLEST) < USUAL ? fit(NARROW) : Math.max(USUAL, fit(GREATEST));
-    return Math.max(LEAST, Math.min(MOST, columns));
+    return fit(SMALLEST) < USUAL ? Math.max(LEAST, fit(NARROW)) : USUAL;
 }
 
 /**

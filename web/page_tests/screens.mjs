@@ -2,6 +2,7 @@
 // mouse and the size of the browser's window.
 
 import { MENU, SCREEN, holds, native, pause, readFileSync, same } from "./page.mjs";
+import { looking } from "./stories.mjs";
 
 const WIDE = [1100, 800];
 const PHONE = [360, 640];
@@ -165,7 +166,7 @@ async function lower(page) {
         return `${it.className}:${it.textContent}:${fontWeight} ${fontStyle} ${/mono/i.test(fontFamily)}`;
     }).join("|"));
     same(parts, "bold:Bold:700 normal false|italic:italic:400 italic false|reverse:reverse:400 normal false|fixed:fixed:400 normal true"
-        + "|fixed: and font 4 after font 1:400 normal true", "the styles of the text");
+        + "|fixed:font 4 after font 1:400 normal true", "the styles of the text");
     holds((await page.text("scroller")).includes("fixed and font 4 after font 1 and font 1 after font 4.\n"), "what set_font answers");
     await page.say("clear");
     const top = await page.run(() => {
@@ -261,7 +262,8 @@ async function otherPage(page) {
         await page.browser.press("Escape");
         await page.until(() => document.getElementById("asked").textContent !== "Press a key");
         await page.rests();
-        await page.lines();
+        await page.menu("menu-lines");
+        await page.shown("lines");
         await page.click("#line-list li:nth-child(1) button");
         await page.until(() => document.querySelectorAll("#scroller .typed").length === 0);
         await page.rests();
@@ -280,9 +282,10 @@ async function otherPage(page) {
     }
 }
 
-/** The play of the page as a file that is shared. */
+/** The play of the page as a file that is shared. (A narrow page has the list in its menu.) */
 async function sharedFile(page) {
-    await page.lines();
+    await page.menu("menu-lines");
+    await page.shown("lines");
     const file = JSON.parse(readFileSync(await page.fileAfter(() => page.click("#play-file"))));
     await page.leave();
     return file;
@@ -329,6 +332,24 @@ async function sharedPlay(page) {
     return `${narrow.columns} and ${wide.columns} columns`;
 }
 
+/** Drops a story, and waits for its first read. */
+async function dropped(page, story, name) {
+    await page.drop(story, name);
+    await page.until((title) => document.getElementById("title").title === title, name);
+    await page.rests();
+}
+
+/**
+ * Code that looks for the width, and code that does not: loadb 0 33, loadb 33 0, loadw 0 17, loadw 17 0, a call of a routine
+ * with 0 and 33; loadb 0 32, loadb 1 33, loadw 0 33, loadw 33 0, loadb 17 0, add 0 33, a call with 1 and 33.
+ */
+const LOOKS = [
+    [[0x10, 0, 33, 0x10], true], [[0x10, 33, 0, 0x10], true], [[0x0f, 0, 17, 0x10], true], [[0x0f, 17, 0, 0x10], true],
+    [[0xe0, 0x17, 0, 0, 0, 33, 0x10], true], [[0x10, 0, 32, 0x10], false], [[0x10, 1, 33, 0x10], false],
+    [[0x0f, 0, 33, 0x10], false], [[0x0f, 33, 0, 0x10], false], [[0x10, 17, 0, 0x10], false], [[0x14, 0, 33, 0x10], false],
+    [[0xe0, 0x17, 0, 0, 1, 33, 0x10], false],
+];
+
 /** A story that does not look for the width places its text for 80 columns, and gets them in a narrow page too. */
 async function usualWidth(page) {
     await inWindow(page, PHONE, async () => {
@@ -337,6 +358,29 @@ async function usualWidth(page) {
         same((await upperOf(page)).bars, "The hall|Turns: 0", "the status line of a story that does not look for the width");
         await page.say("roll");
         same(await page.transcript(), native(["play", "--echo", MENU], "roll\n").text, "its transcript");
+        for (const [i, [code, isLooking]] of LOOKS.entries()) {
+            await dropped(page, looking(code, "Once.\n>"), `looks${i}.z5`);
+            const { columns } = await sharedFile(page);
+            holds(isLooking ? columns >= 20 && columns < 80 : columns === 80, `${columns} columns for the code ${code}`);
+        }
+    });
+}
+
+/** Lines that a story has wrapped to the width that it was told are joined, as those of 80 columns are. */
+async function wrapped(page) {
+    await inWindow(page, PHONE, async () => {
+        const columns = await opened(page);
+        const least = Math.ceil(0.75 * columns);
+        const parts = (width) => [[width - 10, 9], [width - 10, 10], [width - 1, 1]]
+            .map(([line, next]) => `${"x".repeat(line)}\n${"y".repeat(next)}\n\n`);
+        for (const [width, count] of [[columns, 2], [least, 2], [least - 1, 0], [columns + 1, 0], [80, 2], [81, 0]]) {
+            const story = looking([0x10, 0, 33, 0x10], `${"w".repeat(width)}\n\n${parts(width).join("")}>`);
+            await dropped(page, story, `wraps${width}.z5`);
+            const softs = await page.run(() => [...document.querySelectorAll("#scroller .soft")].map((it) =>
+                it.nextSibling.textContent.split("\n")[0].length).join());
+            const isUsual = width >= 60 && width <= 80;
+            same(softs, count || isUsual ? "10,1" : "", `the lines of ${width} letters that are joined in ${columns} columns`);
+        }
     });
 }
 
@@ -344,7 +388,8 @@ async function usualWidth(page) {
 async function largeText(page) {
     const found = [];
     await inWindow(page, PHONE, async () => {
-        for (const keys of [[], ["End"]]) {
+        for (const [width, keys] of [[360, []], [360, ["End"]], [220, ["End"]]]) {
+            await page.browser.size(width, 640);
             await page.fresh();
             await page.click("#example");
             await page.rests();
@@ -357,9 +402,10 @@ async function largeText(page) {
             await page.open(SCREEN);
             const columns = await toldColumns(page);
             const upper = await upperOf(page);
-            wantFits(upper, `text of size ${found.length}`);
-            wantReverse(upper, 0, statusOf(0, columns), columns, `text of size ${found.length}`);
             found.push([columns, upper.size]);
+            holds(columns >= 20, `${columns} columns are told`);
+            wantReverse(upper, 0, statusOf(0, columns), columns, `text of size ${found.length}`);
+            wantFits({ ...upper, over: width < 300 ? 0 : upper.over }, `text of size ${found.length}`);
         }
         const [[columns, size], [fewer, larger]] = found;
         holds(fewer < columns && fewer >= 20 && larger > 1.3 * size, `${columns} columns of ${size}, and ${fewer} of ${larger}`);
@@ -391,6 +437,7 @@ export const SCREENS = [
     ["a snapshot of another width", otherPage],
     ["a shared play of another width", sharedPlay],
     ["a story that does not look for the width", usualWidth],
+    ["lines that are wrapped to another width", wrapped],
     ["columns of larger text", largeText],
     ["a phone that is turned", turned],
 ];

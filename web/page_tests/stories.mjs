@@ -82,6 +82,11 @@ export function tellingWidth(character) {
     return storyOf([...bytes, ...row, ...READ_CHARACTER, 0xba]);
 }
 
+/** A story that has some code, such as one that looks for the width, and then prints a text and reads lines. */
+export function looking(code, text) {
+    return storyOf([...code, ...printed(text), ...READ, ...jumpBack(READ.length)]);
+}
+
 /**
  * A story that shows Flags 1 and what set_font answers to 4, 0, 3, 1 and 0, with a letter in the first font and in the last
  * one, and reads a character.
