@@ -1,7 +1,7 @@
 // The screen of a story: its width, by the page's, and the styles of both windows. It is screen.z5 that is played, by keys, the
 // mouse and the size of the browser's window.
 
-import { MENU, SCREEN, holds, native, pause, readFileSync, same } from "./page.mjs";
+import { EXAMPLES, MENU, SCREEN, holds, join, native, pause, readFileSync, same } from "./page.mjs";
 import { looking } from "./stories.mjs";
 
 const WIDE = [1100, 800];
@@ -428,6 +428,22 @@ async function turned(page) {
     });
 }
 
+/** A quotation in a box, and the status line beside it, are whole in a narrow page too. */
+async function narrowBox(page) {
+    await inWindow(page, PHONE, async () => {
+        await page.fresh();
+        await page.open(join(EXAMPLES, "box.z5"));
+        const upper = await upperOf(page);
+        const text = upper.rows[0].map((run) => run.text).join("");
+        const { columns } = await sharedFile(page);
+        same(text, rowOf("The gate", columns - 11) + "Turns: 0", "the status line");
+        wantFits(upper, "the status line");
+        const box = await page.run(() => [...document.querySelectorAll(".box")].map((it) => it.textContent).join("|"));
+        same(box, "Through me the way into the city of woe,\nthrough me the way into eternal pain\n\n                 -- Dante, Inferno",
+            "the box");
+    });
+}
+
 export const SCREENS = [
     ["a status line of the page's width", statusLine],
     ["a menu in reverse, by the cursor keys", menu],
@@ -440,4 +456,5 @@ export const SCREENS = [
     ["lines that are wrapped to another width", wrapped],
     ["columns of larger text", largeText],
     ["a phone that is turned", turned],
+    ["a box in a narrow page", narrowBox],
 ];
