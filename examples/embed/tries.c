@@ -468,7 +468,9 @@ static size_t show_run(zkit *game, size_t most) {
     zkit_run run = {.size = sizeof run, .length = 9, .style = 9, .before = 9};
     uint8_t text[16];
     zkit_next_run(game, &run);
-    size_t count = zkit_text(game, text, run.length < most ? run.length : most);
+    size_t wanted = run.length < most ? run.length : most, count = 0, part;
+    while ((part = zkit_text(game, text + count, wanted - count)) > 0)
+        count += part;
     printf("  run: %u bytes, style %u, before %u: %.*s\n", (unsigned)run.length, (unsigned)run.style,
            (unsigned)run.before, (int)count, (const char *)text);
     return run.length + run.before;
