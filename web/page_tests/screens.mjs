@@ -168,13 +168,52 @@ async function lower(page) {
     same(parts, "bold:Bold:700 normal false|italic:italic:400 italic false|reverse:reverse:400 normal false|fixed:fixed:400 normal true"
         + "|fixed:font 4 after font 1:400 normal true", "the styles of the text");
     holds((await page.text("scroller")).includes("fixed and font 4 after font 1 and font 1 after font 4.\n"), "what set_font answers");
-    await page.say("clear");
-    const top = await page.run(() => {
-        const [text] = [...document.querySelectorAll("#scroller .text")].slice(-1);
-        return text.getBoundingClientRect().top - document.getElementById("scroller").getBoundingClientRect().top;
+}
+
+/** In the page: the lines of the story that are seen, as far as they are. */
+function seenInPage() {
+    const { top, bottom } = document.getElementById("scroller").getBoundingClientRect();
+    const seen = [...document.querySelectorAll("#scroller .text, #scroller .typed")].filter((it) => {
+        const rects = [...it.getClientRects()];
+        return rects.some((rect) => rect.bottom > top + 16 && rect.top < bottom && rect.height > 0) && it.textContent.trim();
     });
-    holds(top >= 0 && top < 60, `the text after an erasure is at ${top}`);
-    same(await page.focus(), "line 0", "the focus after an erasure");
+    return seen.map((it) => it.textContent.trim().replace(/[\s,.][^]*/, "")).join();
+}
+
+/** What is erased is not seen any more until the reader scrolls up; what comes stands at the top, and more below it. */
+async function erased(page) {
+    for (const size of [WIDE, PHONE])
+        await inWindow(page, size, async () => {
+            await opened(page);
+            await page.say("nothing");
+            const wants = async (wanted, what) => same(await page.run(seenInPage), wanted, `what is seen ${what} in ${size[0]} pixels`);
+            await wants("A,nothing,Nothing", "before an erasure");
+            await page.say("clear");
+            await wants("All", "after an erasure");
+            const top = await page.run(() => [...document.querySelectorAll("#scroller .text")].pop().getBoundingClientRect().top
+                - document.getElementById("scroller").getBoundingClientRect().top);
+            holds(top >= 0 && top < 40, `the text after an erasure is at ${top}`);
+            same(await page.focus(), "line 0", "the focus after an erasure");
+            await page.say("high");
+            await wants("All,high,High", "a line after an erasure");
+            await page.keeps(3);
+            await page.reload();
+            await page.rests();
+            await wants("All,high,High", "after a reload");
+            await page.browser.press("PageUp");
+            await page.until(() => document.getElementById("scroller").scrollTop === 0);
+            holds((await page.run(seenInPage)).startsWith("A,nothing,Nothing"), "what was erased can't be scrolled to");
+            for (const [left, seen] of [[2, "All"], [1, "A,nothing,Nothing"]]) {
+                await page.click("#undo");
+                await page.until((count) => document.querySelectorAll("#scroller .typed").length === count, left);
+                await page.rests();
+                await wants(seen, "after Undo");
+            }
+            await page.say("clear");
+            for (let i = 0; i < 12; i++)
+                await page.say("nothing");
+            holds(await page.newestIsSeen(), "the newest turn is not seen below an erasure");
+        });
 }
 
 /** In the page: notes the tones that are sounded. No driver can hear them. */
@@ -448,7 +487,8 @@ async function narrowBox(page) {
 export const SCREENS = [
     ["a status line of the page's width", statusLine],
     ["a menu in reverse, by the cursor keys", menu],
-    ["all styles, a font, and what is erased", lower],
+    ["all styles and a font", lower],
+    ["what is erased", erased],
     ["bleeps", bleeps],
     ["what is spoken of a screen with styles", spoken],
     ["a snapshot of another width", otherPage],
