@@ -21,10 +21,11 @@ const PAGE = `<!doctype html><meta charset="utf-8"><pre id="shown"></pre>
 <script type="importmap">{ "imports": { "zkit": "./node_modules/zkit/index.js" } }</script>
 <script type="module" src="first.js"></script>
 `;
-const USE = `import { KEYS, load, Refused, type Game } from "zkit";
-const game: Game = (await load()).open(new Uint8Array(3), { seed: 7n, keys: true });
+const USE = `import { KEYS, load, Refused, type Game, type RowRun } from "zkit";
+const game: Game = (await load()).open(new Uint8Array(3), { seed: 7n, keys: true, columns: 40 });
 export const code: number = KEYS.ArrowUp;
 export const awaited: "line" | string = game.turn();
+export const row: RowRun[] = game.window().width > 20 ? game.rowRuns(1) : game.tallestRowRuns(1);
 export const isRefused = (it: unknown): boolean => it instanceof Refused;
 `;
 

@@ -13,7 +13,9 @@ import fs from "fs";
 import path from "path";
 import { fileURLToPath } from "url";
 import { sumOf } from "./page/sums.js";
-import { readingKeys, restoringWindow, styled, telling, tellingStatus } from "./page_tests/stories.mjs";
+import {
+    readingKeys, restoringWindow, styled, stylingCells, telling, tellingStatus, tellingStyles, tellingWidth,
+} from "./page_tests/stories.mjs";
 import { linesOf, play } from "./player.js";
 import { KEYS, LISTINGS, Module, Refused } from "./zkit.js";
 
@@ -275,7 +277,10 @@ function limits(module) {
             const long = Buffer.concat([example(`lighthouse.z${version}`), Buffer.alloc(length)]).subarray(0, length);
             want(refusalOf(() => module.open(long)).number === reason, `version ${version} of ${length} bytes`);
         }
-    const ranges = { frames: [1, 65_535], words: [0, 65_535], undo: [0, 64], steps: [1, 1e9], room: [1, 2 ** 31 - 1] };
+    const ranges = {
+        frames: [1, 65_535], words: [0, 65_535], undo: [0, 64], steps: [1, 1e9], room: [1, 2 ** 31 - 1],
+        columns: [20, 255],
+    };
     for (const [name, [least, most]] of Object.entries(ranges)) {
         for (const value of [least, most])
             want(number({ [name]: value }) === 0, `${name} of ${value} is taken`);
@@ -415,7 +420,7 @@ function figures(module) {
     story.set([0xea, 0x7f, 4, 0xeb, 0x7f, 1, 0xef, 0x5f, 3, 7, 0xe5, 0x7f, 0x63, 0xf6, 0x7f, 1, 0x10, 0xba], 0x800);
     const game = module.open(story);
     want(game.turn() === "character", "a story reads while it writes in the window");
-    const window = { height: 4, tallest: 4, row: 3, column: 8, selected: true };
+    const window = { height: 4, tallest: 4, row: 3, column: 8, selected: true, width: 80 };
     want(JSON.stringify(game.window()) === JSON.stringify(window), "a window");
     want(game.rows().join() === ",,      c," && game.tallestRows().join() === ",,      c,", "its rows");
     game.close();
@@ -777,6 +782,67 @@ function styles(module) {
     plain.close();
 }
 
+/**
+ * The width of the screen is told to the story, in characters and in units (sections 8.4 and 11.1), and the rows of its
+ * upper window have it; what is printed past it is dropped.
+ */
+function widths(module) {
+    for (const character of ["x", "\u20ac"])
+        for (const width of [80, 20, 40, 255]) {
+            const options = width === 80 ? {} : { columns: width };
+            const story = tellingWidth(character.codePointAt(0));
+            const game = module.open(story, options);
+            want(game.turn() === "character" && game.text() === `${width} ${width} `, `widths: ${width} is told`);
+            const row = character.repeat(width);
+            const runs = JSON.stringify([{ text: row, styles: [] }]);
+            const is = (it) => it.window().width === width && it.window().column === width + 1
+                && it.rows().join() === row && JSON.stringify(it.rowRuns(1)) === runs;
+            want(is(game), `widths: a row of ${width} of ${character}`);
+            const again = module.openSnapshot(story, game.snapshot(), { columns: 30 });
+            want(is(again), `widths: a row of ${width} of ${character} from a snapshot`);
+            again.close();
+            game.close();
+        }
+}
+
+/** A story is told of styles (section 11.1), and has a font of a fixed pitch (section 8.1), where a host wants it. */
+function fonts(module) {
+    const run = (text, styles) => ({ text, styles, before: [] });
+    const told = [
+        [{ styles: true }, [run("28 ", []), run("1 a4 0 ", ["fixed"]), run("4 b1 ", [])]],
+        [{}, [run("16 0 a1 0 1 b1 ", [])]],
+    ];
+    for (const [options, runs] of told) {
+        const game = module.open(tellingStyles(), options);
+        want(game.turn() === "character", "fonts: a character is read");
+        const came = JSON.stringify(game.runs());
+        want(came === JSON.stringify(runs), `fonts: ${came}`);
+        game.close();
+    }
+}
+
+/** The styles of the upper window's cells (section 8.7.1): spaces in reverse are seen, also at the end of a row. */
+function cells(module) {
+    const run = (text, ...those) => ({ text, styles: those });
+    const first = [
+        run("ab  ", "reverse"), run("   "), run("c", "bold"), run("\u20ac", "bold", "italic"), run("e", "fixed"),
+        run("f"),
+    ];
+    const rows = [first, [], [run(" "), run("   ", "reverse")], []];
+    for (const options of [{ styles: true }, {}]) {
+        const game = module.open(stylingCells(), options);
+        const are = (get) => JSON.stringify([1, 2, 3, 4].map(get)) === JSON.stringify(rows);
+        want(game.turn() === "character" && game.rows().join() === "ab     c\u20acef,,", "cells: the rows");
+        want(are((row) => game.rowRuns(row)) && are((row) => game.tallestRowRuns(row)), "cells: their runs");
+        for (const none of [0, -1, 1.5, 256, 257, 2 ** 32 + 1])
+            want(game.rowRuns(none).length + game.tallestRowRuns(none).length === 0, `cells: no row ${none}`);
+        game.character(120);
+        want(game.turn() === "character" && game.window().tallest === 3, "cells: the rows are taken away");
+        want(game.rowRuns(1).length === 0 && are((row) => game.tallestRowRuns(row)), "cells: the tallest rows' runs");
+        game.close();
+    }
+}
+
 /** Keys that are no characters, and lines that a key ends. */
 function keys(module) {
     const story = readingKeys();
@@ -885,6 +951,10 @@ async function worker() {
     await call("run", { answer: { saved: true } });
     const back = await call("run", { answer: { restored: saved } });
     want(back.result.awaits === "character" && back.result.rows.length === 1, "it gives the upper window back");
+    await call("open", { story: stylingCells(), options: { columns: 40 } });
+    const { result: { width, grid, rows: texts } } = await call("run", { answer: null });
+    want(width === 40 && texts.join() === "ab     c\u20acef,,", "it tells the width and the rows of the upper window");
+    want(grid.length === 3 && grid[1].length === 0 && grid[2][1].styles.join() === "reverse", "and their styles");
     await call("open", { story: readingKeys(), options: {} });
     await call("run", { answer: null });
     shown = [];
@@ -895,8 +965,8 @@ async function worker() {
 async function main() {
     const tests = [
         rows, examples, windows, listings, refusals, wordsOfReasons, refusedFiles, limits, seeds, inputs, commands,
-        sums, figures, styles, keys, split, badArguments, firstCharacters, lastLines, blorbs, snapshots,
-        snapshotRefusals, thousand, large, full, refusedRequests, refusedCalls, worker, generated,
+        sums, figures, styles, widths, fonts, cells, keys, split, badArguments, firstCharacters, lastLines, blorbs,
+        snapshots, snapshotRefusals, thousand, large, full, refusedRequests, refusedCalls, worker, generated,
     ];
     for (const test of NAMES.length === 0 ? tests : NAMES.map((name) => tests.find((it) => it.name === name))) {
         const begin = performance.now();

@@ -16,11 +16,16 @@
  * @property {number} [steps]
  * @property {number} [room]
  * @property {boolean} [upper]
- * @property {boolean} [styles]  keeps the style of the text, for `nextRun` and `runs`
+ * @property {boolean} [styles]  keeps the style of the text, for `nextRun` and `runs`, and tells the story of styles
  * @property {boolean} [keys]  takes keys in `character` too: KEYS
+ * @property {number} [columns]  how many characters fit on a line of the screen, 20 to 255: the story is told
  */
 
-/** @typedef {{height: number, tallest: number, row: number, column: number, selected: boolean}} Window */
+/**
+ * How the upper window stands.
+ * @typedef {{height: number, tallest: number, row: number, column: number, selected: boolean, width: number}} Window
+ */
+
 /** @typedef {{kind: "score"|"time", name: string, first: number, second: number}} StatusLine */
 /** @typedef {"reverse"|"bold"|"italic"|"fixed"} Style */
 /** @typedef {"erased"|"high bleep"|"low bleep"} Before */
@@ -28,6 +33,11 @@
 /**
  * A part of the screen's text that has one style, and what came before it.
  * @typedef {{text: string, styles: Style[], before: Before[]}} Run
+ */
+
+/**
+ * A part of a row of the upper window that has one style.
+ * @typedef {{text: string, styles: Style[]}} RowRun
  */
 
 /** @typedef {{version: number, release: number, checksum: number, serial: string}} Story */
@@ -71,8 +81,10 @@
  *     zkit_snapshot_with_undo
  * @property {(game: bigint, rows: number) => number} zkit_split
  * @property {(game: bigint, window: bigint) => void} zkit_window_of
- * @property {(game: bigint, row: number, buffer: bigint, length: bigint) => bigint} zkit_row
- * @property {(game: bigint, row: number, buffer: bigint, length: bigint) => bigint} zkit_tallest_row
+ * @property {OfRow} zkit_row
+ * @property {OfRow} zkit_tallest_row
+ * @property {OfRow} zkit_row_styles
+ * @property {OfRow} zkit_tallest_row_styles
  * @property {(game: bigint, figures: bigint) => void} zkit_status_line
  * @property {Taking} zkit_status_name
  * @property {(game: bigint, story: bigint) => void} zkit_story_of
@@ -82,6 +94,7 @@
  */
 /** @typedef {(game: bigint, buffer: bigint, length: bigint) => bigint} Taking */
 /** @typedef {(game: bigint, bytes: bigint, length: bigint) => number} Giving */
+/** @typedef {(game: bigint, row: number, buffer: bigint, length: bigint) => bigint} OfRow */
 /** @typedef {(game: bigint, buffer: bigint, length: bigint, needed: bigint) => number} Copying */
 
 /** What `list` lists, in the order of the constants ZKIT_LIST_HEADER and so on. */
@@ -123,10 +136,10 @@ const LONGEST_STORY = 524_289;
 const BUFFER = 16_384;
 
 // The sizes of the structs of zkit.h, and of the field `size` that each begins with.
-const OPTIONS_SIZE = 48;
+const OPTIONS_SIZE = 56;
 const RUN_SIZE = 24;
 
-/** What the bits of a run's style and of what came before it say, from the lowest on. */
+/** What the bits of a style and of what came before a run say, from the lowest on. */
 /** @type {Style[]} */
 const STYLES = ["reverse", "bold", "italic", "fixed"];
 /** @type {Before[]} */
@@ -164,6 +177,14 @@ function bytesOf(file) {
     if (file instanceof ArrayBuffer)
         return new Uint8Array(file);
     throw new TypeError("a file is a Uint8Array or an ArrayBuffer");
+}
+
+/**
+ * The styles that a sum of them says.
+ * @param {number} sum
+ */
+function stylesOf(sum) {
+    return STYLES.filter((_, i) => sum >> i & 1);
 }
 
 /** @param {Uint8Array[]} parts */
@@ -226,7 +247,7 @@ export class Module {
 
     /**
      * Opens a game that goes on from a snapshot, or throws Refused. The limits of the snapshot may be at most those of
-     * the options; of one that is not given, that of `zkit play`.
+     * the options; of one that is not given, that of `zkit play`. The game keeps its width.
      * @param {Uint8Array | ArrayBuffer} story
      * @param {Uint8Array | ArrayBuffer} snapshot
      * @param {Options} [options]
@@ -356,6 +377,8 @@ export class Module {
         view.setUint32(36, options.upper ? 1 : 0, true);
         view.setUint32(40, options.styles ? 1 : 0, true);
         view.setUint32(44, options.keys ? 1 : 0, true);
+        if (options.columns !== undefined)
+            view.setUint32(48, whole(options.columns), true);
         return at;
     }
 
@@ -447,7 +470,7 @@ export class Game {
         const before = view.getUint32(20, true);
         return {
             length: Number(view.getBigUint64(8, true)),
-            styles: STYLES.filter((_, i) => style >> i & 1),
+            styles: stylesOf(style),
             before: BEFORE.filter((_, i) => before >> i + STYLES.length & 1),
         };
     }
@@ -592,8 +615,8 @@ export class Game {
     window() {
         this.sized(WINDOW_SIZE);
         this.calls.zkit_window_of(this.at, this.buffer);
-        const [height, tallest, row, column, selected] = this.numbers(5);
-        return { height, tallest, row, column, selected: selected !== 0 };
+        const [height, tallest, row, column, selected, width] = this.numbers(6);
+        return { height, tallest, row, column, selected: selected !== 0, width };
     }
 
     /**
@@ -616,11 +639,55 @@ export class Game {
 
     /**
      * @param {number} height
-     * @param {(game: bigint, row: number, buffer: bigint, length: bigint) => bigint} put
+     * @param {OfRow} put
      */
     rowsOf(height, put) {
-        return Array.from({ length: height }, (_, i) =>
-            this.string(put(this.at, i + 1, this.buffer, BigInt(BUFFER))));
+        return Array.from({ length: height }, (_, i) => this.rowOf(i + 1, put));
+    }
+
+    /**
+     * @param {number} row
+     * @param {OfRow} put
+     */
+    rowOf(row, put) {
+        return this.string(put(this.at, whole(row), this.buffer, BigInt(BUFFER)));
+    }
+
+    /**
+     * A row of the upper window, from 1 on, run by run. The texts together are the row, with spaces where no character
+     * stands before the last one, and with spaces in a style at its end. A row that is not shown has none.
+     * @param {number} row
+     */
+    rowRuns(row) {
+        return this.runsOf(row, this.calls.zkit_row, this.calls.zkit_row_styles);
+    }
+
+    /**
+     * The same for a row of the tallest grid since the last answer to a read.
+     * @param {number} row
+     */
+    tallestRowRuns(row) {
+        return this.runsOf(row, this.calls.zkit_tallest_row, this.calls.zkit_tallest_row_styles);
+    }
+
+    /**
+     * @param {number} row
+     * @param {OfRow} put
+     * @param {OfRow} putStyles
+     * @returns {RowRun[]}
+     */
+    runsOf(row, put, putStyles) {
+        const letters = [...this.rowOf(row, put)];
+        const count = Number(putStyles(this.at, whole(row), this.buffer, BigInt(BUFFER)));
+        const styles = this.module.bytes(this.buffer, count);
+        /** @type {RowRun[]} */
+        const runs = [];
+        styles.forEach((style, i) => {
+            if (i === 0 || style !== styles[i - 1])
+                runs.push({ text: "", styles: stylesOf(style) });
+            runs[runs.length - 1].text += letters[i] ?? " ";
+        });
+        return runs;
     }
 
     /**

@@ -275,6 +275,27 @@ static void refuse_options(const uint8_t *story, size_t length) {
     refuse_open("no room, for what is no story", story, 63, &options);
 }
 
+/* The columns of a screen, out of their range and at its ends. */
+static void refuse_columns(const uint8_t *story, size_t length) {
+    static const struct {
+        const char *what;
+        uint32_t columns;
+    } tries[] = {
+        {"no columns", 0},
+        {"19 columns", 19},
+        {"20 columns", 20},
+        {"255 columns", 255},
+        {"256 columns", 256},
+        {"65616 columns, which is 80 above 65536", 65616},
+    };
+    zkit_options options = defaults();
+    puts("columns out of their range, and within it");
+    for (size_t i = 0; i < sizeof tries / sizeof tries[0]; i++) {
+        options.columns = tries[i].columns;
+        refuse_open(tries[i].what, story, length, &options);
+    }
+}
+
 /* What zkit_defaults sets, whatever stands there before. */
 static void tell_defaults(void) {
     zkit_options options;
@@ -292,6 +313,7 @@ static void tell_defaults(void) {
     say("upper", options.upper);
     say("styles", options.styles);
     say("keys", options.keys);
+    say("columns", options.columns);
 }
 
 /* Why no game is opened from a snapshot of no bytes. */
@@ -323,6 +345,12 @@ static void size_options(const uint8_t *story, size_t length) {
     options.known.seed = 7;
     zkit_defaults(&options.known);
     say("the seed", (size_t)options.known.seed);
+    options.known.size = offsetof(zkit_options, columns) + sizeof options.known.columns - 1;
+    options.known.columns = 7;
+    zkit_defaults(&options.known);
+    say("the seed, and fields up to the last byte of the columns", (size_t)options.known.seed);
+    say("the columns", options.known.columns);
+    refuse_open("with such columns", story, length, &options.known);
     options.known.size = 0;
     refuse_open("no size", story, length, &options.known);
     say("a snapshot with no size", refused_snapshot(story, length, &options.known));
@@ -340,6 +368,14 @@ static void size_answers(const uint8_t *story, size_t length) {
     zkit *game = opened(story, length, NULL);
     zkit_window_of(game, &window);
     say("a window without its last field", window.height);
+    window.size = offsetof(zkit_window, width) + sizeof window.width - 1;
+    window.width = 9;
+    zkit_window_of(game, &window);
+    say("a window without the last byte of its width", window.height);
+    say("its width", window.width);
+    window.size = sizeof window;
+    zkit_window_of(game, &window);
+    say("a window with its width", window.width);
     zkit_status_line(game, &figures);
     say("a status line with no size", figures.kind);
     figures.size = offsetof(zkit_figures, second) + sizeof figures.second - 1;
@@ -432,7 +468,9 @@ static size_t show_run(zkit *game, size_t most) {
     zkit_run run = {.size = sizeof run, .length = 9, .style = 9, .before = 9};
     uint8_t text[16];
     zkit_next_run(game, &run);
-    size_t count = zkit_text(game, text, run.length < most ? run.length : most);
+    size_t wanted = run.length < most ? run.length : most, count = 0, part;
+    while ((part = zkit_text(game, text + count, wanted - count)) > 0)
+        count += part;
     printf("  run: %u bytes, style %u, before %u: %.*s\n", (unsigned)run.length, (unsigned)run.style,
            (unsigned)run.before, (int)count, (const char *)text);
     return run.length + run.before;
@@ -471,6 +509,96 @@ static void use_styles(void) {
     while (show_run(game, 16) > 0)
         ;
     zkit_close(game);
+}
+
+/* Flags 1, and what set_font answers: a story is told of styles and has a font of a fixed pitch where the option is not
+ * 0. */
+static void use_fonts(const char *what, const zkit_options *options) {
+    /* loadb 0 1 -> global 16; print_num global 16; and for the fonts 4, 0, 3, 1 and 0: set_font -> global 16;
+     * print_char ' '; print_num global 16. Then read_char 1 -> global 16; quit */
+    const uint8_t code[] = {0x10, 0x00, 0x01, 0x10, 0xe6, 0xbf, 0x10, 0xbe, 0x04, 0x7f, 0x04, 0x10, 0xe5, 0x7f,
+                            0x20, 0xe6, 0xbf, 0x10, 0xbe, 0x04, 0x7f, 0x00, 0x10, 0xe5, 0x7f, 0x20, 0xe6, 0xbf,
+                            0x10, 0xbe, 0x04, 0x7f, 0x03, 0x10, 0xe5, 0x7f, 0x20, 0xe6, 0xbf, 0x10, 0xbe, 0x04,
+                            0x7f, 0x01, 0x10, 0xe5, 0x7f, 0x20, 0xe6, 0xbf, 0x10, 0xbe, 0x04, 0x7f, 0x00, 0x10,
+                            0xe5, 0x7f, 0x20, 0xe6, 0xbf, 0x10, 0xf6, 0x7f, 0x01, 0x10, 0xba};
+    puts(what);
+    zkit *game = opened_code(code, sizeof code, options);
+    say("turn", zkit_turn(game));
+    while (show_run(game, 16) > 0)
+        ;
+    zkit_close(game);
+}
+
+static void use_fonts_by_options(void) {
+    zkit_options options = defaults();
+    use_fonts("fonts, without styles", &options);
+    options.styles = 1;
+    use_fonts("fonts, with styles", &options);
+    options.styles = 256;
+    use_fonts("fonts, with styles by another number", &options);
+    options.size = offsetof(zkit_options, styles);
+    use_fonts("fonts, by options without the field", &options);
+}
+
+/* The text, the width and the first row of a game whose story shows the width that it is told. */
+static void show_width(zkit *game) {
+    zkit_window window = {.size = sizeof window};
+    uint8_t row[1020] = {0};
+    say("turn", zkit_turn(game));
+    show(game);
+    zkit_window_of(game, &window);
+    say("width", window.width);
+    say("the cursor's column", window.column);
+    say("bytes of the row", zkit_row(game, 1, row, sizeof row));
+    printf("  the last character of it that can be: %.*s\n", 3, (const char *)row + 3 * (window.width - 1));
+    say("its cells", zkit_row_styles(game, 1, row, sizeof row));
+}
+
+/* loadb 0 33 -> global 16; print_num global 16; print_char ' '; loadw 0 17 -> global 16; print_num global 16;
+ * split_window 1; set_window 1; store global 17, 0; print_unicode U+20AC; inc_chk global 17, 259, and again up to that;
+ * read_char 1 -> global 16; quit */
+static const uint8_t width_code[] = {0x10, 0x00, 0x21, 0x10, 0xe6, 0xbf, 0x10, 0xe5, 0x7f, 0x20, 0x0f, 0x00, 0x11,
+                                     0x10, 0xe6, 0xbf, 0x10, 0xea, 0x7f, 0x01, 0xeb, 0x7f, 0x01, 0x0d, 0x11, 0x00,
+                                     0xbe, 0x0b, 0x3f, 0x20, 0xac, 0xc5, 0x4f, 0x11, 0x01, 0x03, 0x3f, 0xf6, 0xf6,
+                                     0x7f, 0x01, 0x10, 0xba};
+
+/* The width of the screen is told to the story, in characters and in units, and the upper window's rows have it. */
+static void use_width(const char *what, const zkit_options *options) {
+    puts(what);
+    zkit *game = opened_code(width_code, sizeof width_code, options);
+    show_width(game);
+    zkit_close(game);
+}
+
+/* A game that goes on from a snapshot has the width that it had, whatever the options say. */
+static void keep_width(zkit_options options) {
+    static uint8_t kept[SMALL * 16];
+    uint8_t story[SMALL];
+    size_t size = 0;
+    make_story(story, width_code, sizeof width_code);
+    options.columns = 40;
+    zkit *game = opened(story, sizeof story, &options);
+    puts("the width of a game that goes on from a snapshot");
+    zkit_turn(game);
+    show(game);
+    say("kept", zkit_snapshot(game, kept, sizeof kept, &size));
+    zkit_close(game);
+    options.columns = 30;
+    zkit *other = zkit_open_snapshot(story, sizeof story, kept, size, &options, NULL);
+    show_width(other);
+    zkit_close(other);
+}
+
+static void use_columns(void) {
+    zkit_options options = defaults();
+    use_width("a screen that is as wide as is usual", NULL);
+    options.columns = 20;
+    use_width("a screen of 20 columns", &options);
+    options.columns = 255;
+    use_width("a screen of 255 columns", &options);
+    options.size = offsetof(zkit_options, columns);
+    use_width("a screen by options without the field", &options);
+    keep_width(defaults());
 }
 
 /* A story that reads a character and then a line, and shows the code of the one, and of what ended the other. Its table
@@ -590,6 +718,8 @@ static void use_options(void) {
         use_states(undo);
     use_upper();
     use_styles();
+    use_fonts_by_options();
+    use_columns();
     use_keys();
     split_after_restore();
     split_in_a_text();
@@ -746,6 +876,61 @@ static void tell_window(void) {
     zkit_close(game);
 }
 
+/* Writes the styles of a row's cells, as many as there are and one more. */
+static void show_cells(const char *name, size_t count, const uint8_t *styles) {
+    printf("  %s: %u of", name, (unsigned)count);
+    for (size_t i = 0; i <= count; i++)
+        printf(" %u", styles[i]);
+    putchar('\n');
+}
+
+/* The styles of the cells of each row, and of one that there is not. */
+static void show_styles(const char *what, zkit *game,
+                        size_t (*styles_of)(const zkit *, uint32_t, uint8_t *, size_t)) {
+    const uint32_t rows[] = {1, 2, 3, 4, 0, 257};
+    puts(what);
+    for (size_t i = 0; i < sizeof rows / sizeof rows[0]; i++) {
+        uint8_t styles[255];
+        char name[20];
+        memset(styles, 99, sizeof styles);
+        snprintf(name, sizeof name, "row %u", (unsigned)rows[i]);
+        size_t count = styles_of(game, rows[i], styles, sizeof styles - 1);
+        show_cells(name, count, styles);
+    }
+    uint8_t few[] = {99, 99, 99, 99, 99};
+    size_t count = styles_of(game, 1, few, 4);
+    show_cells("its first cells", count, few);
+    say("without a buffer", styles_of(game, 1, NULL, 0));
+}
+
+/* The styles of the upper window's cells: letters of several styles, a row of spaces, and one of spaces in reverse. */
+static void tell_cells(void) {
+    /* split_window 3; set_window 1; set_text_style 1; print_char 'a'; print_char ' '; set_text_style 0; set_cursor 1 4;
+     * set_text_style 2; print_char 'b'; set_text_style 4; print_char 'c'; set_text_style 0; set_text_style 8;
+     * print_char 'd'; set_text_style 0; print_char 'e'; set_cursor 2 1; print_char ' '; set_cursor 3 2;
+     * set_text_style 1; print_char ' '; set_text_style 0; set_window 0; read_char 1 -> global 16; split_window 0;
+     * read_char 1 -> global 16; quit */
+    const uint8_t code[] = {0xea, 0x7f, 0x03, 0xeb, 0x7f, 0x01, 0xf1, 0x7f, 0x01, 0xe5, 0x7f, 0x61, 0xe5, 0x7f, 0x20,
+                            0xf1, 0x7f, 0x00, 0xef, 0x5f, 0x01, 0x04, 0xf1, 0x7f, 0x02, 0xe5, 0x7f, 0x62, 0xf1, 0x7f,
+                            0x04, 0xe5, 0x7f, 0x63, 0xf1, 0x7f, 0x00, 0xf1, 0x7f, 0x08, 0xe5, 0x7f, 0x64, 0xf1, 0x7f,
+                            0x00, 0xe5, 0x7f, 0x65, 0xef, 0x5f, 0x02, 0x01, 0xe5, 0x7f, 0x20, 0xef, 0x5f, 0x03, 0x02,
+                            0xf1, 0x7f, 0x01, 0xe5, 0x7f, 0x20, 0xf1, 0x7f, 0x00, 0xeb, 0x7f, 0x00, 0xf6, 0x7f, 0x01,
+                            0x10, 0xea, 0x7f, 0x00, 0xf6, 0x7f, 0x01, 0x10, 0xba};
+    uint8_t row[1020];
+    puts("cells with styles");
+    zkit *game = opened_code(code, sizeof code, NULL);
+    say("turn", zkit_turn(game));
+    show_row("the first row", zkit_row(game, 1, row, sizeof row), row);
+    say("bytes of the third row", zkit_row(game, 3, row, sizeof row));
+    show_styles("the styles of its rows", game, zkit_row_styles);
+    show_styles("the styles of the tallest grid's rows", game, zkit_tallest_row_styles);
+    say("character", zkit_character(game, 'x'));
+    say("turn", zkit_turn(game));
+    show_styles("the styles of its rows where there are none", game, zkit_row_styles);
+    show_styles("the styles of the rows that were taken away", game, zkit_tallest_row_styles);
+    zkit_close(game);
+}
+
 /* A status line of a story of version 3 whose place is "ab": its score and turns, or its hours and minutes. */
 static void tell_figures(const char *what, uint8_t flags, uint16_t first, uint16_t second) {
     /* sread 00200 00300; quit */
@@ -838,8 +1023,8 @@ static void undo_from_snapshots(void) {
     undo_from("a snapshot with a state", game, story, SIZE_MAX);
     undo_from("a snapshot without room for it", game, story, 19);
     undo_from_plain(game, story);
-    /* 82,008 and dynamic memory, 10 for each frame, 2 for each word */
-    say("the longest", zkit_longest_snapshot(game, 0) - 82008 - 0x800);
+    /* 260,513 and dynamic memory, 10 for each frame, 2 for each word */
+    say("the longest", zkit_longest_snapshot(game, 0) - 260513 - 0x800);
     say("the same of the limits", 10 * ZKIT_FRAMES + 2 * ZKIT_WORDS);
     say("with 19 bytes of states", zkit_longest_snapshot(game, 19) - zkit_longest_snapshot(game, 0));
     say("with all that there may be", zkit_longest_snapshot(game, SIZE_MAX) == SIZE_MAX);
@@ -1122,6 +1307,7 @@ int main(int count, char **words) {
     refuse(lighthouse, length);
     refuse_stories();
     refuse_options(lighthouse, length);
+    refuse_columns(lighthouse, length);
     tell_defaults();
     size_options(lighthouse, length);
     size_answers(lighthouse, length);
@@ -1134,6 +1320,7 @@ int main(int count, char **words) {
     fill_room();
     draw_box();
     tell_window();
+    tell_cells();
     tell_figures("a score below 0", 0, 0xfffb, 300);
     tell_figures("a time", 2, 13, 5);
     show_status_line(other, read_story(words[2], other));

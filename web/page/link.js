@@ -1,12 +1,15 @@
-// A play as an address or a file: the story's IFID, the seed, and what was answered. The same answers give the same
-// play, so nothing else is needed; `told` is the sum of the text, by which the page sees that it is so.
+// A play as an address or a file: the story's IFID, the seed, the width of its screen, and what was answered. The same
+// answers give the same play, so nothing else is needed; `told` is the sum of the text, by which the page sees that it
+// is so.
 
 import { fromBase64, toBase64 } from "./at.js";
+import { isWidth } from "./columns.js";
 
 /** @typedef {import("./answers.js").Answer} Answer */
 /**
- * A play that is shared.
- * @typedef {{zkit: 1, ifid: string, name: string, story: string, seed: string, told: string, answers: Answer[]}} Shared
+ * A play that is shared; one that does not say its columns has the usual ones.
+ * @typedef {{zkit: 1, ifid: string, name: string, story: string, seed: string, columns?: number, told: string,
+ *     answers: Answer[]}} Shared
  */
 
 export const LONGEST_LINK = 8192;
@@ -125,7 +128,7 @@ function faultOf(it) {
         return "it was made by another version of this page";
     const words = [it.ifid, it.name, it.story, it.seed, it.told];
     const isWhole = words.every((one) => typeof one === "string" && one.length <= LONGEST_WORD)
-        && /^\d{1,20}$/.test(it.seed);
+        && /^\d{1,20}$/.test(it.seed) && (it.columns === undefined || isWidth(it.columns));
     return isWhole ? faultOfAnswers(it.answers) : "it is damaged";
 }
 

@@ -2,14 +2,18 @@
 // newest blocks stand in the page, and older ones come back where the reader scrolls up to them.
 
 import { at, made } from "./at.js";
+import { USUAL } from "./columns.js";
 import { Width } from "./reflow.js";
 
 /** @typedef {"text" | "prompt" | "typed" | "note" | "box"} Kind */
 /** @typedef {import("./machine.js").Run} Run */
 /** @typedef {{from: number, to: number, styles: string[]}} Range a part of a text that is not in roman */
 /** @typedef {{kind: Kind, text: string, ranges?: Range[]}} Piece */
-/** @typedef {{blocks: number, held: string, turn: number}} Mark */
-/** @typedef {{blocks: Piece[][], held: string, turn?: number}} KeptLog what a reload has; once it had no turn */
+/** @typedef {{blocks: number, held: string, turn: number, cleared: number}} Mark */
+/**
+ * What a reload has; once it told no more than the first two.
+ * @typedef {{blocks: Piece[][], held: string, turn?: number, cleared?: number}} KeptLog
+ */
 
 /** So many characters a block has at most, about. */
 const BLOCK = 6000;
@@ -85,12 +89,13 @@ export class Log {
         this.blocks = [];
         /** The part of a line after which the story reads. */
         this.held = "";
-        this.width = new Width();
+        this.width = new Width(USUAL);
         /** The first block that stands in the page, and the first in the part whose additions are spoken. */
         this.first = 0;
         this.firstNew = 0;
-        /** The block that the newest answer began. */
+        /** The block that the newest answer began, and the first one since the window was erased. */
         this.turn = 0;
+        this.cleared = 0;
         this.isDue = false;
         /** Whether nothing is drawn: a play is repeated. */
         this.isStill = false;
@@ -104,11 +109,12 @@ export class Log {
         new ResizeObserver(() => this.resized()).observe(scroller);
     }
 
-    clear() {
+    /** @param {number} columns how many the story is told */
+    clear(columns) {
         this.blocks = [];
         this.held = "";
-        this.width = new Width();
-        this.first = this.firstNew = this.turn = 0;
+        this.width = new Width(columns);
+        this.first = this.firstNew = this.turn = this.cleared = 0;
         this.isStill = false;
         older.replaceChildren();
         log.replaceChildren();
@@ -159,7 +165,7 @@ export class Log {
     erased() {
         this.release();
         this.newBlock();
-        this.turn = this.blocks.length - 1;
+        this.turn = this.cleared = this.blocks.length - 1;
         this.due();
     }
 
@@ -241,7 +247,7 @@ export class Log {
 
     /** @returns {Mark} */
     mark() {
-        return { blocks: this.blocks.length, held: this.held, turn: this.turn };
+        return { blocks: this.blocks.length, held: this.held, turn: this.turn, cleared: this.cleared };
     }
 
     /**
@@ -252,6 +258,7 @@ export class Log {
         this.blocks.length = Math.min(this.blocks.length, mark.blocks);
         this.held = mark.held;
         this.turn = mark.turn;
+        this.cleared = mark.cleared;
         this.isStill = true;
     }
 
@@ -264,15 +271,20 @@ export class Log {
         let first = this.blocks.length;
         while (first > 0 && size < KEPT)
             size += this.blocks[--first].reduce((sum, piece) => sum + piece.text.length, 0);
-        return { blocks: this.blocks.slice(first), held: this.held, turn: Math.max(0, this.turn - first) };
+        const [turn, cleared] = [this.turn, this.cleared].map((i) => Math.max(0, i - first));
+        return { blocks: this.blocks.slice(first), held: this.held, turn, cleared };
     }
 
-    /** @param {KeptLog} it */
-    fill(it) {
-        this.clear();
+    /**
+     * @param {KeptLog} it
+     * @param {number} columns
+     */
+    fill(it, columns) {
+        this.clear(columns);
         this.blocks = it.blocks;
         this.held = it.held;
         this.turn = it.turn ?? Math.max(0, it.blocks.length - 1);
+        this.cleared = it.cleared ?? 0;
         for (const piece of it.blocks.flat().filter((one) => one.kind === "text"))
             this.width.see(piece.text);
         this.showEnd();
@@ -371,11 +383,22 @@ export class Log {
         return scroller.scrollHeight - scroller.clientHeight;
     }
 
-    /** Scrolls so that the newest answer's text is read from its start. */
+    /**
+     * How far is scrolled where a block stands at the top; infinitely far where it does not stand in the page.
+     * @param {number} i
+     */
+    topOf(i) {
+        const element = this.elementOf(i);
+        return element ? element.offsetTop - scroller.offsetTop - 16 : Infinity;
+    }
+
+    /** Scrolls so that the newest answer's text is read from its start, and nothing is seen that was erased before. */
     goToTurn() {
-        const element = this.elementOf(this.turn);
-        const turn = element ? element.offsetTop - scroller.offsetTop - 16 : Infinity;
-        scroller.scrollTop = Math.min(this.bottom(), turn);
+        const top = this.topOf(this.cleared);
+        const erased = top > 16 && top < Infinity ? top : 0;
+        const end = erased + scroller.clientHeight - parseFloat(getComputedStyle(scroller).paddingBottom);
+        log.style.minHeight = erased > 0 ? `${Math.max(0, end + scroller.offsetTop - log.offsetTop)}px` : "";
+        scroller.scrollTop = Math.max(erased, Math.min(this.bottom(), this.topOf(this.turn)));
         this.top = scroller.scrollTop;
         this.look = "turn";
     }

@@ -4,6 +4,7 @@ import { at, fromBase64 } from "./at.js";
 
 /** @typedef {import("./answers.js").Answer} Answer */
 /** @typedef {import("../zkit.js").Run} Run */
+/** @typedef {import("../zkit.js").RowRun} RowRun */
 /** @typedef {{kind: "score" | "time", name: string, first: number, second: number}} StatusLine */
 
 /**
@@ -12,6 +13,8 @@ import { at, fromBase64 } from "./at.js";
  * @property {"stopped" | "line" | "character" | "save" | "restore" | "memory" | "pause" | "halt" | "refused"} awaits
  * @property {string[]} rows
  * @property {string[] | null} box the rows of a grid that was taken away again before the read
+ * @property {RowRun[][]} grid the rows, run by run
+ * @property {number} width how many columns they have
  * @property {StatusLine | null} status
  * @property {number} longest
  * @property {string} last

@@ -2,6 +2,7 @@
 
 import { isRead } from "./answers.js";
 import { agreed, at, bytesOf, field, fromBase64, made, madeButton, tell } from "./at.js";
+import { USUAL, columnsFor } from "./columns.js";
 import { lacking, titleOfBlorb, wordsOnFile } from "./kinds.js";
 import { isLink, playAt, playOf } from "./link.js";
 import { NotOpened } from "./machine.js";
@@ -85,13 +86,13 @@ export class Opening {
      * @param {StoryFile} story
      * @param {import("./answers.js").Answer[]} [answers]
      * @param {string} [withSeed]
-     * @param {import("./answers.js").Answer[]} [later]
+     * @param {number} [columns]
      */
-    async start(story, answers = [], withSeed = seed(), later = []) {
+    async start(story, answers = [], withSeed = seed(), columns = columnsFor(story.bytes)) {
         return trying(story.name, async () => {
             tell("");
             await seePlay(sumOf(story.bytes));
-            await this.play.start(story, withSeed, answers, later);
+            await this.play.start(story, withSeed, columns, answers);
             await keepStory({ ...story, ifid: this.play.ifid }, this.play.sum);
             this.changed();
             await tidy();
@@ -154,7 +155,7 @@ export class Opening {
             if (!(error instanceof NotOpened))
                 throw error;
         }
-        await this.start(story, kept.answers, kept.seed);
+        await this.start(story, kept.answers, kept.seed, kept.columns ?? USUAL);
     }
 
     /**
@@ -236,7 +237,7 @@ export class Opening {
             return;
         }
         field("seed").value = shared.seed;
-        if (!await this.start(story, shared.answers, shared.seed))
+        if (!await this.start(story, shared.answers, shared.seed, shared.columns ?? USUAL))
             return;
         if (this.play.chain.slice(0, 16) === shared.told)
             tell("This is the shared play, letter by letter. Continue from here, or from any of its lines.");

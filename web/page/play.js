@@ -4,6 +4,7 @@
 import { agreed, at, speak, tell, toBase64 } from "./at.js";
 import { isRead } from "./answers.js";
 import { hideOver, showOver, showPaused, showRunning, wordsOfEnd } from "./bars.js";
+import { USUAL } from "./columns.js";
 import { Machine, Trapped } from "./machine.js";
 import { boxText } from "./screen.js";
 import { sound } from "./sound.js";
@@ -86,6 +87,7 @@ export class Play {
         this.ifid = "";
         this.sum = "";
         this.seed = "1";
+        this.columns = USUAL;
         /** The title that the story shows at its start. */
         this.title = "";
         /** @type {Standing | null} */
@@ -197,21 +199,22 @@ export class Play {
      * it goes on.
      * @param {File} story
      * @param {string} seed
+     * @param {number} columns how many the story is told
      * @param {Answer[]} [answers]
      * @param {Answer[]} [later] the answers after these, for the list of lines
      */
-    async start(story, seed, answers = [], later = []) {
+    async start(story, seed, columns, answers = [], later = []) {
         const wasBusy = this.isBusy;
         const machine = await this.idleMachine();
         try {
-            const options = { ...OPTIONS, seed: BigInt(seed) };
-            this.take(story, await this.unlessLeft(machine.open(story.bytes, options)), seed);
+            const options = { ...OPTIONS, seed: BigInt(seed), columns };
+            this.take(story, await this.unlessLeft(machine.open(story.bytes, options)), seed, columns);
         } catch (error) {
             if (!(error instanceof Left))
                 await this.stay(wasBusy || error instanceof Trapped);
             throw error;
         }
-        this.log.clear();
+        this.log.clear(columns);
         this.empty();
         this.later = later;
         this.reader.changed();
@@ -229,7 +232,7 @@ export class Play {
         const story = /** @type {File} */ (this.story);
         const mark = nearest([...this.marks, this.here], count);
         if (!mark) {
-            await this.start(story, this.seed, answers.slice(0, count), answers.slice(count));
+            await this.start(story, this.seed, this.columns, answers.slice(0, count), answers.slice(count));
             return;
         }
         const machine = await this.idleMachine();
@@ -302,9 +305,9 @@ export class Play {
     async resume(story, play) {
         const machine = await this.idleMachine();
         const about = await this.unlessLeft(machine.resume(story.bytes, /** @type {Uint8Array} */ (play.snapshot)));
-        this.take(story, about, play.seed);
+        this.take(story, about, play.seed, play.columns ?? USUAL);
         this.empty();
-        this.log.fill(play.log);
+        this.log.fill(play.log, this.columns);
         this.title = play.title || "";
         this.answers = play.answers;
         this.input.remember(play.answers);
@@ -319,13 +322,15 @@ export class Play {
      * @param {File} story
      * @param {About} about
      * @param {string} seed
+     * @param {number} columns
      */
-    take(story, about, seed) {
+    take(story, about, seed, columns) {
         this.story = story;
         this.about = about;
         this.ifid = about.ifid;
         this.sum = sumOf(story.bytes);
         this.seed = seed;
+        this.columns = columns;
         this.script = this.title = "";
         this.reader.opened();
     }
@@ -584,7 +589,7 @@ export class Play {
     settle(standing) {
         this.standing = standing;
         this.beBusy(false);
-        const news = this.screen.show(standing.rows, standing.status);
+        const news = this.screen.show(standing);
         if (this.bleep)
             sound(this.bleep);
         this.bleep = null;
@@ -669,7 +674,8 @@ export class Play {
         if (!this.here || this.isBusy || (awaits !== "line" && awaits !== "character"))
             return null;
         return {
-            module, story: this.sum, ifid: this.ifid, seed: this.seed, title: this.title, name: this.name(),
+            module, story: this.sum, ifid: this.ifid, seed: this.seed, columns: this.columns, title: this.title,
+            name: this.name(),
             answers: this.answers.slice(0, this.here.answers), chain: this.here.chain,
             snapshot: this.here.snapshot, hasStates: true, log: this.log.kept(),
             box: this.lastRows, date: Date.now(),
@@ -680,6 +686,7 @@ export class Play {
     shared() {
         const { name } = /** @type {File} */ (this.story);
         const [story, told] = [this.sum, this.chain].map((sum) => sum.slice(0, 16));
-        return { zkit: 1, ifid: this.ifid, name, story, seed: this.seed, told, answers: this.answers };
+        const { ifid, seed, columns, answers } = this;
+        return { zkit: 1, ifid, name, story, seed, columns, told, answers };
     }
 }

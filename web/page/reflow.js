@@ -1,12 +1,15 @@
 // Whether a story ended a line early because its screen was full. That can be told where the story wraps its own text:
 // no line is longer than a screen, the longest ones nearly fill one, and the next word would not have fitted.
 
-const SCREEN = 80;
-const NEARLY = 60;
+import { USUAL } from "./columns.js";
+
+const NEARLY = 0.75;
 
 /** The width that a story wraps its text to, by the lines that it has shown. */
 export class Width {
-    constructor() {
+    /** @param {number} columns how many the story was told; it may have wrapped to the usual ones all the same */
+    constructor(columns) {
+        this.screens = [columns, USUAL];
         this.longest = 0;
     }
 
@@ -23,7 +26,7 @@ export class Width {
      */
     joins(line, next) {
         const word = /^[^\s]+/.exec(next);
-        const isWrapped = this.longest >= NEARLY && this.longest <= SCREEN;
+        const isWrapped = this.screens.some((columns) => this.longest >= NEARLY * columns && this.longest <= columns);
         return isWrapped && word !== null && !/^\s/.test(line) && line.length + 1 + word[0].length > this.longest;
     }
 }

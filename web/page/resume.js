@@ -14,6 +14,7 @@ import { sumOf } from "./sums.js";
  * @property {string} story the sum of the story
  * @property {string} ifid
  * @property {string} seed
+ * @property {number} [columns] how many the story was told; the usual ones where that is not said
  * @property {Answer[]} answers
  * @property {string} chain the sum of all text
  * @property {Uint8Array | null} snapshot
@@ -78,7 +79,7 @@ export async function seePlay(sum) {
  * @param {Kept} other
  */
 function isSame(one, other) {
-    return one.chain === other.chain && one.seed === other.seed
+    return one.chain === other.chain && one.seed === other.seed && one.columns === other.columns
         && JSON.stringify(one.answers) === JSON.stringify(other.answers);
 }
 

@@ -1,15 +1,12 @@
-// The status line and the upper window, above the text: a grid of characters, or in a narrow page a bar where the rows
-// have few parts.
+// The status line and the upper window, above the text: a grid of characters with their styles, or a bar where there is
+// no room for a grid and the rows have few parts.
 
 import { at, made } from "./at.js";
+import { SMALLEST, USUAL, heightOf } from "./columns.js";
 
+/** @typedef {import("./machine.js").RowRun} RowRun */
+/** @typedef {import("./machine.js").Standing} Standing */
 /** @typedef {import("./machine.js").StatusLine} StatusLine */
-
-const COLUMNS = 80;
-
-/** The smallest and the greatest height of the grid's letters, in pixels, the greatest one for text of medium size. */
-const SMALLEST = 11;
-const GREATEST = 14;
 
 const upper = at("upper");
 
@@ -43,6 +40,32 @@ function news(before, now) {
 }
 
 /**
+ * Whether something is seen of a run.
+ * @param {RowRun} run
+ */
+function isSeen({ text, styles }) {
+    return text.trim() !== "" || styles.includes("reverse");
+}
+
+/**
+ * Whether a row is in reverse over so many columns.
+ * @param {RowRun[]} runs
+ * @param {number} width
+ */
+function isReverse(runs, width) {
+    const length = runs.reduce((sum, { text }) => sum + text.length, 0);
+    return length >= width && runs.every(({ styles }) => styles.includes("reverse"));
+}
+
+/**
+ * What shows a run.
+ * @param {RowRun} run
+ */
+function drawn({ text, styles }) {
+    return styles.length > 0 ? made("span", styles.join(" "), text) : text;
+}
+
+/**
  * The rows of a box without what is empty around its text.
  * @param {string[]} rows
  */
@@ -60,6 +83,9 @@ export class Screen {
     constructor() {
         /** @type {string[]} */
         this.rows = [];
+        /** @type {RowRun[][]} */
+        this.grid = [];
+        this.width = USUAL;
         /** @type {StatusLine | null} */
         this.status = null;
         /**
@@ -72,13 +98,11 @@ export class Screen {
 
     /**
      * Shows the rows, and answers in words what is new in them.
-     * @param {string[]} rows
-     * @param {StatusLine | null} status
+     * @param {Pick<Standing, "rows" | "grid" | "width" | "status">} standing
      */
-    show(rows, status) {
+    show({ rows, grid, width, status }) {
         const before = this.parts;
-        this.rows = rows;
-        this.status = status;
+        Object.assign(this, { rows, grid, width, status });
         this.parts = [...status ? statusParts(status) : [], ...rows].flatMap((row) => row.trim().split(/ {2,}/))
             .filter((part) => part);
         this.draw();
@@ -93,9 +117,10 @@ export class Screen {
     }
 
     draw() {
-        const isEmpty = !this.status && !this.rows.some((row) => row.trim());
+        const isEmpty = !this.status && !this.grid.flat().some(isSeen);
         upper.hidden = isEmpty;
         upper.replaceChildren();
+        upper.classList.remove("inked");
         if (isEmpty)
             return;
         if (this.status)
@@ -106,16 +131,18 @@ export class Screen {
     }
 
     drawRows() {
-        const greatest = GREATEST * parseFloat(getComputedStyle(document.documentElement).fontSize) / 16;
-        const size = Math.min(greatest, (upper.clientWidth - 24) / COLUMNS / 0.603);
+        const size = heightOf(this.width);
         const isBar = size < SMALLEST && this.rows.length <= 2 && this.rows.every((row) => parts(row).length <= 3);
         if (isBar) {
             upper.append(...this.rows.map((row) => this.bar(parts(row))));
             return;
         }
-        const grid = made("pre", "grid", this.rows.join("\n"));
+        const grid = made("pre", "grid");
+        grid.append(...this.grid.flatMap((runs, i) => [i > 0 ? "\n" : "", ...runs.map(drawn)]));
         grid.style.fontSize = `${Math.max(SMALLEST, size)}px`;
         upper.append(grid);
+        // (the ground around rows that are in reverse as a whole looks like theirs)
+        upper.classList.toggle("inked", !this.status && this.grid.every((runs) => isReverse(runs, this.width)));
     }
 
     /** @param {string[]} texts */

@@ -131,8 +131,11 @@ function seen(awaits) {
  * @param {string} awaits
  */
 function standing(awaits) {
+    const { height, width } = game.window();
     return {
         ...seen(awaits),
+        grid: Array.from({ length: height }, (_, i) => game.rowRuns(i + 1)),
+        width,
         status: game.statusLine(),
         longest: awaits === "line" ? game.longestLine() : 0,
         last: awaits === "stopped" ? game.lastLine() : "",

@@ -1,6 +1,6 @@
 // Contrast and names, as the page draws them.
 
-import { MENU, holds, pause } from "./page.mjs";
+import { MENU, SCREEN, holds, pause } from "./page.mjs";
 
 const LEAST = 4.5;
 
@@ -66,6 +66,9 @@ async function through(page, look) {
     await page.leave();
     await page.say("break");
     await look("the end");
+    await page.open(SCREEN);
+    await page.sayAll(["styles", "look"]);
+    await look("a screen with styles");
 }
 
 export async function contrast(page) {

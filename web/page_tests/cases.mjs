@@ -6,6 +6,7 @@ import { contrast, named } from "./access.mjs";
 import { KEEPING, blorb, spoilInPage } from "./keeping.mjs";
 import { EXAMPLES, MENU, basename, holds, join, linesOf, native, pause, readFileSync, same, sameWithKeys } from "./page.mjs";
 import { PERSON } from "./person.mjs";
+import { SCREENS } from "./screens.mjs";
 import { echoingKeys, readingKeys, telling } from "./stories.mjs";
 import { USING } from "./using.mjs";
 
@@ -886,6 +887,7 @@ export const CASES = [
     ...KEEPING,
     ...USING,
     ...PERSON,
+    ...SCREENS,
     ["360 pixels wide", narrow],
     ["contrast of all texts", contrast],
     ["roles and names", named],

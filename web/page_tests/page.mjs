@@ -8,6 +8,7 @@ import { fileURLToPath } from "node:url";
 export const ROOT = join(fileURLToPath(import.meta.url), "../../..");
 export const EXAMPLES = join(ROOT, "examples");
 export const MENU = join(ROOT, "web/page_tests/menu.z5");
+export const SCREEN = join(ROOT, "web/page_tests/screen.z5");
 const ZKIT = join(ROOT, "dist/zkit");
 
 /** So many milliseconds a test waits at most for what is to come. */

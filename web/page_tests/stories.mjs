@@ -3,6 +3,7 @@
 const CODE = 0x800;
 const LINE = 0x200;
 const READ = [0xe4, 0x1f, LINE >> 8, LINE & 0xff, 0, 0x10];
+const READ_CHARACTER = [0xf6, 0x7f, 0x01, 0x10];
 const NEW_LINE = 13;
 
 /** print_char for each character of a text. */
@@ -19,6 +20,15 @@ function word(value) {
 function jumpBack(count) {
     return [0x8c, ...word(-count - 1)];
 }
+
+/** set_text_style of a number. */
+const style = (number) => [0xf1, 0x7f, number];
+
+/** set_cursor to a row and a column. */
+const cursor = (row, column) => [0xef, 0x5f, row, column];
+
+/** print_num of a variable, and a space. */
+const told = (variable) => [0xe6, 0xbf, variable, ...printed(" ")];
 
 function storyOf(code) {
     const story = Buffer.alloc(CODE + code.length);
@@ -51,12 +61,54 @@ export function repeating(text, count) {
  * high bleep, erases the lower window, reads a character and shows text with a fixed pitch.
  */
 export function styled() {
-    const style = (number) => [0xf1, 0x7f, number];
     const bleep = (number) => [0xf5, 0x7f, number];
     const hi = [0xb2, 0xb5, 0xc5];
     return storyOf([...style(2), ...hi, ...style(0), ...hi, 0xed, 0x3f, 0xff, 0xff, ...bleep(2), ...style(4),
         0xbe, 0x0b, 0x7f, 0xe4, ...bleep(1), 0xed, 0x7f, 0x00, 0xf6, 0x7f, 0x01, 0x10, 0xe2, 0x57, 0x00, 0x11, 0x02,
         ...hi, 0xba]);
+}
+
+/**
+ * A story that shows the width of the screen by the bytes 21 and 22 of its header, in characters and in units, writes 260
+ * characters of a number in the first row of its upper window, and reads a character.
+ */
+export function tellingWidth(character) {
+    const print = [0xbe, 0x0b, 0x3f, ...word(character)];
+    // loadb 0 33 -> global 0; loadw 0 17 -> global 0
+    const bytes = [0x10, 0x00, 0x21, 0x10, ...told(0x10), 0x0f, 0x00, 0x11, 0x10, ...told(0x10)];
+    // split_window 1; set_window 1; store global 1, 0; the character; inc_chk global 1, 259 ?~ back to it
+    const row = [0xea, 0x7f, 0x01, 0xeb, 0x7f, 0x01, 0x0d, 0x11, 0x00, ...print,
+        0xc5, 0x4f, 0x11, ...word(259), ...word(-(print.length + 5) & 0x3fff)];
+    return storyOf([...bytes, ...row, ...READ_CHARACTER, 0xba]);
+}
+
+/** A story that has some code, such as one that looks for the width, and then prints a text and reads lines. */
+export function looking(code, text) {
+    return storyOf([...code, ...printed(text), ...READ, ...jumpBack(READ.length)]);
+}
+
+/**
+ * A story that shows Flags 1 and what set_font answers to 4, 0, 3, 1 and 0, with a letter in the first font and in the last
+ * one, and reads a character.
+ */
+export function tellingStyles() {
+    const font = (number) => [0xbe, 0x04, 0x7f, number, 0x10, ...told(0x10)];
+    // loadb 0 1 -> global 0
+    return storyOf([0x10, 0x00, 0x01, 0x10, ...told(0x10), ...font(4), ...printed("a"), ...font(0), ...font(3), ...font(1),
+        ...printed("b"), ...font(0), ...READ_CHARACTER, 0xba]);
+}
+
+/**
+ * A story with three rows in its upper window: in the first one letters of several styles after each other, with spaces in
+ * reverse and in roman; in the second one nothing but spaces; in the third one nothing but spaces in reverse. It reads a
+ * character, takes the rows away, and reads another one.
+ */
+export function stylingCells() {
+    const first = [...cursor(1, 1), ...style(1), ...printed("ab  "), ...style(0), ...cursor(1, 8), ...style(2), ...printed("c"),
+        ...style(4), 0xbe, 0x0b, 0x3f, ...word(0x20ac), ...style(0), ...style(8), ...printed("e"), ...style(0), ...printed("f")];
+    const others = [...cursor(2, 1), ...printed("    "), ...cursor(3, 2), ...style(1), ...printed("   "), ...style(0)];
+    return storyOf([0xea, 0x7f, 0x03, 0xeb, 0x7f, 0x01, ...first, ...others, 0xeb, 0x7f, 0x00, ...READ_CHARACTER,
+        0xea, 0x7f, 0x00, ...READ_CHARACTER, 0xba]);
 }
 
 /**
@@ -85,7 +137,6 @@ export function restoringWindow() {
 
 /** A story that prints a line in bold and a text in roman, and then reads lines. */
 export function titled(title, text) {
-    const style = (number) => [0xf1, 0x7f, number];
     return storyOf([...style(2), ...printed(title), ...style(0), ...printed(`\n${text}`), ...READ, ...jumpBack(READ.length)]);
 }
 
