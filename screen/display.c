@@ -1,11 +1,13 @@
 #include "screen.h"
 
 #include "display.h"
+#include "grid.h"
 
 #include <stdio.h>
+#include <stdlib.h>
 #include <string.h>
 
-enum { GRID = 80 };
+enum { LONGEST_MARK = 512 };
 
 static bool is_plain;
 static int words_rows; /* how many rows have no mark */
@@ -18,65 +20,44 @@ int display_columns(void) {
     return COLS;
 }
 
-/* ---- rows of the upper window */
+/* ---- styles */
 
-/* A row of the grid as it is drawn: characters, each with the column that it has in the grid. */
-struct row {
-    wchar_t at[GRID];
-    int from[GRID];
-    int length;
-};
+/* How a terminal shows a style. One without italic letters underlines them. */
+static attr_t look_of(uint8_t style) {
+    attr_t look = style & ZKIT_REVERSE ? A_REVERSE : A_NORMAL;
+    if (is_plain)
+        return look;
+    if (style & ZKIT_ITALIC)
+        look |= termattrs() & A_ITALIC ? A_ITALIC : A_UNDERLINE;
+    return style & ZKIT_BOLD ? look | A_BOLD : look;
+}
 
-/* Reads UTF-8, as the library gives it, into a row. */
-static void read_row(struct row *row, const uint8_t *bytes, size_t count) {
-    row->length = 0;
-    for (size_t i = 0; i < count; i++) {
-        if ((bytes[i] & 0xc0) == 0x80 && row->length > 0) {
-            row->at[row->length - 1] = row->at[row->length - 1] << 6 | (bytes[i] & 0x3f);
-        } else if (row->length < GRID) {
-            row->from[row->length] = row->length;
-            row->at[row->length++] = bytes[i] < 0xc0 ? bytes[i] : bytes[i] & (bytes[i] < 0xe0 ? 0x1f : 0x0f);
-        }
+/* Draws characters from a place of the screen on, each part in its style. */
+static void draw_styled(int at, int column, const wchar_t *characters, const uint8_t *styles, size_t count) {
+    move(at, column);
+    for (size_t start = 0, next = 0; start < count; start = next) {
+        while (next < count && styles[next] == styles[start])
+            next++;
+        attrset(look_of(styles[start]));
+        addnwstr(characters + start, (int)(next - start));
     }
+    attrset(A_NORMAL);
 }
 
-/* Finds the longest run of spaces in a row, the last one of several: where it starts, and its length. */
-static int longest_gap(const struct row *row, int *start) {
-    int longest = 0;
-    for (int i = 0, length = 0; i < row->length; i++) {
-        length = row->at[i] == L' ' ? length + 1 : 0;
-        if (length > 0 && length >= longest) {
-            longest = length;
-            *start = i - length + 1;
-        }
-    }
-    return longest;
+static void draw_spaces(int at, int column, int count, attr_t look) {
+    attrset(look);
+    mvhline(at, column, ' ', count);
+    attrset(A_NORMAL);
 }
 
-/* Makes a row fit a narrow screen: takes spaces out of its widest gaps, as long as one is left in each. */
-static void squeeze(struct row *row, int columns) {
-    int start = 0;
-    while (row->length > columns && longest_gap(row, &start) > 1) {
-        row->length--;
-        memmove(row->at + start, row->at + start + 1, (size_t)(row->length - start) * sizeof *row->at);
-        memmove(row->from + start, row->from + start + 1, (size_t)(row->length - start) * sizeof *row->from);
-    }
-}
+/* ---- the upper window */
 
-/* The column of the screen in which a column of the grid stands, both from 0 on. */
-static int column_of(const struct row *row, int column) {
-    int drawn = 0, behind = row->length > 0 ? row->from[row->length - 1] + 1 : 0;
-    while (drawn < row->length && row->from[drawn] < column)
-        drawn++;
-    return column > behind ? drawn + column - behind : drawn;
-}
-
-/* Draws a row in reverse, as wide as the screen. */
-static void draw_bar(int at, const wchar_t *characters, int count) {
-    attron(A_REVERSE);
-    mvhline(at, 0, ' ', COLS);
-    mvaddnwstr(at, 0, characters, count < COLS ? count : COLS);
-    attroff(A_REVERSE);
+/* Draws a row of a grid of so many columns. If it is in reverse up to the last one, it is up to the screen's edge. */
+static void draw_row(int at, const struct row *row, uint32_t columns) {
+    int last = row->length - 1, count = row->length < COLS ? row->length : COLS;
+    draw_styled(at, 0, row->at, row->styles, (size_t)count);
+    if (last >= 0 && row->from[last] == (int)columns - 1 && row->styles[last] & ZKIT_REVERSE && count < COLS)
+        draw_spaces(at, count, COLS - count, A_REVERSE);
 }
 
 /* Where the upper part ends: how many rows it takes of those that are there. The text has one at least. */
@@ -87,11 +68,6 @@ static int upper_rows(const zkit *game) {
     zkit_status_line(game, &figures);
     int rows = (int)window.height + (figures.kind != ZKIT_NO_STATUS);
     return rows < LINES - 2 ? rows : LINES > 2 ? LINES - 2 : 0;
-}
-
-int display_rows(const zkit *game, bool has_mark) {
-    int rows = LINES - upper_rows(game) - has_mark;
-    return rows > 1 ? rows : 1;
 }
 
 /* Writes the figures of a status line, in short where a name of so many columns leaves no room for the words. */
@@ -107,36 +83,37 @@ static void write_figures(const zkit_figures *it, int name, char *figures, size_
 /* Draws the status line of version 3: the name on the left, cut where it must be, and the figures on the right. */
 static int draw_status_line(const zkit *game) {
     zkit_figures it = {.size = sizeof it};
-    uint8_t name[3 * GRID];
+    uint8_t name[3 * WIDEST];
     struct row row;
     char figures[60];
     zkit_status_line(game, &it);
     if (it.kind == ZKIT_NO_STATUS || upper_rows(game) == 0)
         return 0;
-    read_row(&row, name, zkit_status_name(game, name, sizeof name));
+    grid_text(&row, name, zkit_status_name(game, name, sizeof name));
     write_figures(&it, row.length, figures, sizeof figures);
     int column = COLS - (int)strlen(figures);
-    draw_bar(0, row.at, row.length < column - 2 || column < 4 ? row.length : column - 2);
-    attron(A_REVERSE);
+    int length = row.length < column - 2 || column < 4 ? row.length : column - 2;
+    draw_spaces(0, 0, COLS, A_REVERSE);
+    attrset(A_REVERSE);
+    mvaddnwstr(0, 0, row.at, length < COLS ? length : COLS);
     if (column >= 0)
         mvaddstr(0, column, figures);
-    attroff(A_REVERSE);
+    attrset(A_NORMAL);
     return 1;
 }
 
 /* Draws the upper window below some rows, and notes where its cursor stands. */
 static void draw_window(const zkit *game, const zkit_window *window, int top, int *cursor_row, int *cursor_column) {
-    uint8_t bytes[3 * GRID];
     struct row row;
     int last = upper_rows(game);
     *cursor_row = top + (int)window->row - 1;
     *cursor_column = (int)window->column - 1;
     for (uint32_t i = 1; i <= window->height && top < last; i++, top++) {
-        read_row(&row, bytes, zkit_row(game, i, bytes, sizeof bytes));
-        squeeze(&row, COLS);
-        draw_bar(top, row.at, row.length);
+        grid_row(&row, game, i, false);
+        grid_squeeze(&row, COLS);
+        draw_row(top, &row, window->width);
         if (i == window->row)
-            *cursor_column = column_of(&row, *cursor_column);
+            *cursor_column = grid_column(&row, *cursor_column);
     }
     *cursor_row = *cursor_row < LINES ? *cursor_row : LINES - 1;
     *cursor_column = *cursor_column < COLS ? *cursor_column : COLS - 1;
@@ -144,33 +121,35 @@ static void draw_window(const zkit *game, const zkit_window *window, int top, in
 
 /* ---- a box */
 
-/* Where a box stands in the grid: the rows that are not empty, and the columns of their characters. */
+/* Where a box stands in the grid: the rows in which something is seen, and the columns. */
 struct box {
     uint32_t first, last;
     int left, right;
 };
 
-static void widen(struct box *box, uint32_t number, const struct row *row) {
-    int left = 0;
-    while (left < row->length && row->at[left] == L' ')
+static void widen(struct box *box, uint32_t number, const struct row *row, bool is_text) {
+    int left = 0, right = row->length;
+    while (left < row->length && !grid_is_seen(row, left, is_text))
         left++;
     if (left == row->length)
         return;
+    while (!grid_is_seen(row, right - 1, is_text))
+        right--;
     box->first = box->first ? box->first : number;
     box->last = number;
     box->left = left < box->left ? left : box->left;
-    box->right = row->length > box->right ? row->length : box->right;
+    box->right = right > box->right ? right : box->right;
 }
 
-/* Finds the rows that the story took away again before it reads, without those in which it read a key. */
-static struct box find_box(const zkit *game, const zkit_window *window, uint32_t keyed) {
-    struct box box = {0, 0, GRID, 0};
-    uint8_t bytes[3 * GRID];
+/* Finds the rows that the story took away again before it reads, without those in which it read a key: all that is seen
+ * there, or the text alone. */
+static struct box find_box(const zkit *game, const zkit_window *window, uint32_t keyed, bool is_text) {
+    struct box box = {0, 0, WIDEST, 0};
     struct row row;
     uint32_t above = window->height > keyed ? window->height : keyed;
     for (uint32_t i = above + 1; i <= window->tallest; i++) {
-        read_row(&row, bytes, zkit_tallest_row(game, i, bytes, sizeof bytes));
-        widen(&box, i, &row);
+        grid_row(&row, game, i, true);
+        widen(&box, i, &row, is_text);
     }
     return box;
 }
@@ -184,50 +163,45 @@ static int beside_cursor(int at, int rows, int top, int bottom, int cursor) {
     return cursor - rows > top ? cursor - rows : top;
 }
 
-/* Draws a box over the text: a quotation. It stands in the middle, as it does on 80 columns, with a space on both sides
+/* Draws a box over the text: a quotation. It stands in the middle, as it does in the grid, with a space on both sides
  * if there is room. */
-static void draw_box(const zkit *game, const struct box *box, int at, int bottom) {
-    uint8_t bytes[3 * GRID];
+static void draw_box(const zkit *game, const struct box *box, int columns, int at, int bottom) {
     struct row row;
     int width = box->right - box->left, margin = width + 2 <= COLS, whole = width + 2 * margin;
-    int column = box->left - margin + (COLS - GRID) / 2;
+    int column = box->left - margin + (COLS - columns) / 2;
     column = column + whole > COLS ? COLS - whole : column;
     column = column > 0 ? column : 0;
-    attron(A_REVERSE);
+    width = width < COLS ? width : COLS;
     for (uint32_t i = box->first; i <= box->last && at < bottom; i++, at++) {
-        read_row(&row, bytes, zkit_tallest_row(game, i, bytes, sizeof bytes));
+        grid_row(&row, game, i, true);
         int length = row.length - box->left;
-        mvhline(at, column, ' ', whole < COLS ? whole : COLS);
+        draw_spaces(at, column, whole < COLS ? whole : COLS, A_NORMAL);
         if (length > 0)
-            mvaddnwstr(at, column + margin, row.at + box->left, length < COLS ? length : COLS);
+            draw_styled(at, column + margin, row.at + box->left, row.styles + box->left,
+                        (size_t)(length < width ? length : width));
     }
-    attroff(A_REVERSE);
+}
+
+/* Draws the box, if there is one, between two rows of the screen and beside the cursor. A screen that is too narrow for
+ * all of it shows its text. */
+static void draw_any_box(const zkit *game, const zkit_window *window, uint32_t keyed, int top, int bottom, int cursor) {
+    struct box box = find_box(game, window, keyed, false);
+    if (box.right - box.left > COLS)
+        box = find_box(game, window, keyed, true);
+    if (box.first == 0)
+        return;
+    int at = top + (int)(box.first - window->height) - 1, rows = (int)(box.last - box.first) + 1;
+    draw_box(game, &box, (int)window->width, beside_cursor(at, rows, top, bottom, cursor), bottom);
 }
 
 /* ---- the text */
 
-/* How a terminal shows a style. One without italic letters underlines them. */
-static attr_t look_of(uint8_t style) {
-    attr_t look = style & ZKIT_REVERSE ? A_REVERSE : A_NORMAL;
-    if (is_plain)
-        return look;
-    if (style & ZKIT_ITALIC)
-        look |= termattrs() & A_ITALIC ? A_ITALIC : A_UNDERLINE;
-    return style & ZKIT_BOLD ? look | A_BOLD : look;
-}
-
-/* Draws a row of the text, each part in its style, without the spaces and the new line at its end. */
-static void draw_row(const struct text *text, int at, place start, place end) {
+/* Draws a row of the text, without the spaces and the new line at its end. */
+static void draw_text_row(const struct text *text, int at, place start, place end) {
     while (end > start && (text_character(text, end - 1) == L'\n' || text_character(text, end - 1) == L' '))
         end--;
-    move(at, 0);
-    for (place next = start; start < end; start = next) {
-        while (next < end && text_style(text, next) == text_style(text, start))
-            next++;
-        attrset(look_of(text_style(text, start)));
-        addnwstr(text->characters + (start - text->first), (int)(next - start));
-    }
-    attrset(A_NORMAL);
+    if (end > start)
+        draw_styled(at, 0, text->characters + (start - text->first), text->styles + (start - text->first), end - start);
 }
 
 /* Draws the rows of the text between two rows of the screen, and notes where the cursor stands. */
@@ -238,7 +212,8 @@ static void draw_text(const struct text *text, const struct shown *shown, int to
     *cursor_column = 0;
     for (int at = top; at < bottom; at++) {
         place next = text_next_row(text, row, COLS), end = next == row ? text_end(text) : next;
-        draw_row(text, at, row, end < shown->end ? end : shown->end);
+        place shown_end = end < shown->end ? end : shown->end;
+        draw_text_row(text, at, row, shown_end);
         if (row <= shown->cursor) {
             *cursor_row = at;
             *cursor_column = 0;
@@ -252,48 +227,87 @@ static void draw_text(const struct text *text, const struct shown *shown, int to
     *cursor_column = *cursor_column < COLS ? *cursor_column : COLS - 1;
 }
 
-static int draw_mark(const char *mark) {
-    mvhline(LINES - 1, 0, ' ', COLS);
-    attron(A_REVERSE);
-    mvaddnstr(LINES - 1, 0, mark, -1);
-    attroff(A_REVERSE);
-    int column = getcurx(stdscr);
-    return getcury(stdscr) == LINES - 1 && column < COLS ? column : COLS - 1;
+/* ---- words in the last rows */
+
+/* Words, and where each row of them ends. */
+struct mark {
+    wchar_t words[LONGEST_MARK];
+    size_t ends[LONGEST_MARK];
+    int rows;
+};
+
+/* Reads words and wraps them into so many rows at most. What is left then is not shown. */
+static void read_mark(struct mark *mark, const char *words, int most) {
+    size_t length = 0, start = 0;
+    for (const char *end = words + strlen(words); words < end && length < LONGEST_MARK; length++) {
+        int taken = mbtowc(&mark->words[length], words, (size_t)(end - words));
+        if (taken < 0)
+            mark->words[length] = L'?';
+        words += taken > 0 ? taken : 1;
+    }
+    for (mark->rows = 0; start < length && mark->rows < most; mark->rows++)
+        mark->ends[mark->rows] = start = end_of_row(mark->words, start, length, COLS);
 }
 
-void display_draw(const zkit *game, const struct text *text, const struct shown *shown) {
-    zkit_window window = {.size = sizeof window};
-    int top = upper_rows(game), bottom = LINES - (shown->mark != NULL), row, column, upper_row, upper_column;
-    zkit_window_of(game, &window);
-    words_rows = bottom;
-    erase();
-    draw_window(game, &window, draw_status_line(game), &upper_row, &upper_column);
-    draw_text(text, shown, top, bottom, &row, &column);
-    struct box box = find_box(game, &window, shown->keyed);
-    if (!shown->is_back && box.first > 0) {
-        int at = top + (int)(box.first - window.height) - 1, rows = (int)(box.last - box.first) + 1;
-        draw_box(game, &box, beside_cursor(at, rows, top, bottom, row), bottom);
+/* How many rows are left for words, below the upper part and a row of text. */
+static int most_mark_rows(const zkit *game) {
+    int most = LINES - upper_rows(game) - 1;
+    return most > 1 ? most : 1;
+}
+
+int display_rows(const zkit *game, const char *words) {
+    struct mark mark = {.rows = 0};
+    if (words)
+        read_mark(&mark, words, most_mark_rows(game));
+    int rows = LINES - upper_rows(game) - mark.rows;
+    return rows > 1 ? rows : 1;
+}
+
+/* Draws words into the last rows, and leaves the cursor behind them. */
+static void draw_mark(const struct mark *mark) {
+    size_t start = 0;
+    for (int i = 0; i < mark->rows; i++) {
+        int at = LINES - mark->rows + i, columns = (int)(mark->ends[i] - start);
+        draw_spaces(at, 0, COLS, A_NORMAL);
+        attrset(A_REVERSE);
+        mvaddnwstr(at, 0, mark->words + start, columns < COLS ? columns : COLS);
+        attrset(A_NORMAL);
+        start = mark->ends[i];
     }
-    if (window.selected && !shown->is_back) {
-        row = upper_row;
-        column = upper_column;
-    }
-    if (shown->mark) {
-        int behind = draw_mark(shown->mark);
-        if (shown->is_asking) {
-            row = LINES - 1;
-            column = behind;
-        }
-    }
-    move(row, column);
-    refresh();
+    if (getcury(stdscr) != LINES - 1 || getcurx(stdscr) >= COLS)
+        move(LINES - 1, COLS - 1);
 }
 
 void display_table(const char *const *rows, size_t count, const char *last) {
+    struct mark mark;
+    read_mark(&mark, last, LINES);
     erase();
-    for (int i = 0; i < (int)count && i < LINES - 1; i++)
+    for (int i = 0; i < (int)count && i < LINES - mark.rows; i++)
         mvaddnstr(i, 0, rows[i], COLS);
-    move(LINES - 1, draw_mark(last));
+    draw_mark(&mark);
+    refresh();
+}
+
+/* ---- all of it */
+
+void display_draw(const zkit *game, const struct text *text, const struct shown *shown) {
+    zkit_window window = {.size = sizeof window};
+    struct mark mark = {.rows = 0};
+    int top = upper_rows(game), row, column, upper_row, upper_column;
+    if (shown->mark)
+        read_mark(&mark, shown->mark, most_mark_rows(game));
+    words_rows = LINES - mark.rows;
+    zkit_window_of(game, &window);
+    erase();
+    draw_window(game, &window, draw_status_line(game), &upper_row, &upper_column);
+    draw_text(text, shown, top, words_rows, &row, &column);
+    if (!shown->is_back)
+        draw_any_box(game, &window, shown->keyed, top, words_rows, row);
+    draw_mark(&mark);
+    if (!shown->is_asking && window.selected && !shown->is_back)
+        move(upper_row, upper_column);
+    else if (!shown->is_asking)
+        move(row, column);
     refresh();
 }
 

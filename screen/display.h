@@ -13,21 +13,21 @@ struct shown {
     place end;              /* what stands from here on is not shown */
     place cursor;
     uint32_t keyed;         /* in so many rows of the upper window a key was read, and they are no box when they go */
-    const char *mark;       /* words in the last row, or null */
+    const char *mark;       /* words in the last rows, or null */
     bool is_asking;         /* the cursor stands behind these words */
     bool is_back;           /* earlier text is shown, without the box and the cursor of the story */
 };
 
-/* Whether styles are shown, but for reverse. */
+/* Whether no styles are shown but reverse. */
 void display_set_plain(bool is_plain);
 
-/* How many rows of text there is room for, beside a mark or without one. */
-int display_rows(const zkit *game, bool has_mark);
+/* How many rows of text there is room for, above some words or, for null, without any. */
+int display_rows(const zkit *game, const char *mark);
 int display_columns(void);
 
 void display_draw(const zkit *game, const struct text *text, const struct shown *shown);
 
-/* Draws rows of ASCII in place of all, and words in the last row. */
+/* Draws rows of ASCII in place of all, and words in the last rows. */
 void display_table(const char *const *rows, size_t count, const char *last);
 
 /* The words on the screen, without a mark: how many characters. */

@@ -150,7 +150,7 @@ static void take_stem(const char *path) {
     snprintf(play.save_name, sizeof play.save_name, "%.*s.qzl", (int)length, name);
 }
 
-/* Reads a story and opens it at its start. Answers -1, or a status to end with. */
+/* Reads a story and looks whether it can be opened. Answers -1, or a status to end with. */
 static int open_story(const char *path) {
     size_t length;
     uint8_t *bytes = file_read(path, MOST_FILE, &length);
@@ -176,15 +176,24 @@ static int open_story(const char *path) {
 
 /* ---- the play */
 
+/* The width that a story is begun with: that of the screen, within what the library takes. */
+static uint32_t columns_of_screen(void) {
+    int columns = display_columns();
+    if (columns < ZKIT_LEAST_COLUMNS)
+        return ZKIT_LEAST_COLUMNS;
+    return columns < ZKIT_MOST_COLUMNS ? (uint32_t)columns : ZKIT_MOST_COLUMNS;
+}
+
 /* Asks whether the play that was kept goes on. If not, or if there is none, the story begins. */
 static void go_on_or_begin(void) {
     uint64_t seed = play.options.seed;
-    if (!open_kept(&play))
-        return;
-    key pressed = ask(&play, "Go on where you left off? (y/n) ", "yn");
+    key pressed = L'n';
+    if (open_kept(&play))
+        pressed = ask(&play, "Go on where you left off? (y/n) ", "yn");
     if (pressed == L'y')
         return;
     play.options.seed = seed;
+    play.options.columns = columns_of_screen();
     if (pressed != L'n' || open_new(&play) != ZKIT_OPENED)
         play.is_left = true;
 }

@@ -41,7 +41,7 @@ struct play {
     place back;
     place cursor;
     uint32_t keyed;              /* the rows of the upper window in which the last key was read: a menu */
-    const char *question;        /* asked in the last row, or null */
+    const char *question;        /* asked in the last rows, or null */
     char notice[LONGEST_NOTICE]; /* told there until the next key */
 
     struct history lines;
@@ -59,7 +59,7 @@ struct play {
 
 /* ---- view.c: what the reader sees */
 
-/* Tells something in the last row until the next key. */
+/* Tells something in the last rows until the next key. */
 void notice(struct play *play, const char *format, ...);
 
 /* Draws all. */
@@ -68,7 +68,7 @@ void draw(struct play *play);
 /* Draws all and waits for a key. It scrolls, and shows help and the seed, by itself. */
 key play_key(struct play *play);
 
-/* Asks for one of some keys in the last row: PRESS_ESCAPE and PRESS_STOP are answers too, and so is PRESS_GONE. */
+/* Asks for one of some keys in the last rows: PRESS_ESCAPE and PRESS_STOP are answers too, and so is PRESS_GONE. */
 key ask(struct play *play, const char *question, const char *answers);
 
 /* Whether there is more new text than the screen has room for; and the place behind the page of it that is shown. */

@@ -96,9 +96,7 @@ int width_of(wchar_t character) {
     return width > 0 ? width : 0;
 }
 
-/* Where the row ends that starts here: behind the last space before the screen's edge, or at the edge in a word that is
- * longer than a row. Spaces at the edge hang over it. */
-static size_t end_of_row(const wchar_t *characters, size_t start, size_t end, int columns) {
+size_t end_of_row(const wchar_t *characters, size_t start, size_t end, int columns) {
     size_t after_space = start;
     int column = 0;
     for (size_t i = start; i < end; i++) {

@@ -46,6 +46,10 @@ uint8_t text_style(const struct text *text, place at);
 /* How many columns a character takes: 0, 1 or 2. */
 int width_of(wchar_t character);
 
+/* Where the row ends that starts here: behind the last space before the screen's edge, or at the edge in a word that is
+ * longer than a row. Spaces at the edge hang over it. */
+size_t end_of_row(const wchar_t *characters, size_t start, size_t end, int columns);
+
 /* Where the row begins that has a place, on a screen of so many columns. */
 place text_row_of(const struct text *text, place at, int columns);
 

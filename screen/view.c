@@ -32,8 +32,10 @@ void notice(struct play *play, const char *format, ...) {
 
 /* ---- pages */
 
-static int rows_of(const struct play *play, bool has_mark) {
-    return display_rows(play->game, has_mark);
+static const char page_mark[] = "[more]", back_mark[] = "[earlier text: Page Down goes on]";
+
+static int rows_of(const struct play *play, const char *mark) {
+    return display_rows(play->game, mark);
 }
 
 /* Where the row stands that is so many below another one; the end of the text, if it ends before that. */
@@ -54,20 +56,20 @@ static place page_start(const struct play *play) {
 
 bool has_more(const struct play *play) {
     int columns = display_columns();
-    int rows = rows_of(play, play->notice[0] != 0);
+    int rows = rows_of(play, play->notice[0] ? play->notice : NULL);
     place row = text_rows_on(&play->text, page_start(play), rows - 1, columns);
     return text_next_row(&play->text, row, columns) != row;
 }
 
 place page_end(const struct play *play) {
-    return behind_rows(play, page_start(play), rows_of(play, true));
+    return behind_rows(play, page_start(play), rows_of(play, page_mark));
 }
 
 static const char *mark_of(const struct play *play) {
     if (play->question)
         return play->question;
     if (play->is_paged)
-        return "[more]";
+        return page_mark;
     if (play->notice[0])
         return play->notice;
     return play->is_busy ? "[The story is busy. Esc stops it.]" : NULL;
@@ -86,7 +88,7 @@ static struct shown now_shown(const struct play *play) {
     }
     place last = text_row_of(&play->text, text_end(&play->text), columns);
     place erased = text_row_of(&play->text, play->erased, columns);
-    shown.top = text_rows_on(&play->text, last, 1 - rows_of(play, shown.mark != NULL), columns);
+    shown.top = text_rows_on(&play->text, last, 1 - rows_of(play, shown.mark), columns);
     shown.top = shown.top > erased ? shown.top : erased;
     shown.end = text_end(&play->text);
     shown.cursor = play->cursor < shown.end ? play->cursor : shown.end;
@@ -99,7 +101,7 @@ void draw(struct play *play) {
     struct shown shown = now_shown(play);
     if (play->is_back) {
         shown.top = text_row_of(&play->text, play->back, display_columns());
-        shown.mark = "[earlier text: Page Down goes on]";
+        shown.mark = back_mark;
         shown.is_asking = shown.is_back = true;
     }
     display_draw(play->game, &play->text, &shown);
@@ -108,7 +110,7 @@ void draw(struct play *play) {
 /* Goes a page up or down in the text, up to what is shown else. */
 static void scroll(struct play *play, bool is_up) {
     struct shown shown = now_shown(play);
-    int columns = display_columns(), step = rows_of(play, true) > 1 ? rows_of(play, true) - 1 : 1;
+    int columns = display_columns(), rows = rows_of(play, back_mark), step = rows > 1 ? rows - 1 : 1;
     place top = play->is_back ? text_row_of(&play->text, play->back, columns) : shown.top;
     play->back = text_rows_on(&play->text, top, is_up ? -step : step, columns);
     play->is_back = play->back < shown.top;

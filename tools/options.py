@@ -1,14 +1,16 @@
 #!/usr/bin/env python3
-"""Puts the options of the command line and what findings mean into the pages that list them.
+"""Puts the options of the command line and what findings mean into the pages that list them, and makes the files by
+which shells complete words.
 
-usage: tools/options.py [--write]
+usage: tools/options.py [--check | --write]
 
 The table of options is crates/zk_command/src/options.rt. From it come the usage in README.md, the manual and
-docs/zkit.1, and the ranges and defaults in the manual's table, in the page for man and in include/zkit.h. The options
-of sections are those of crates/zk_inspect/src/section.rt. The words of findings are those of
-crates/zk_inspect/src/check/finding.rt. From it come the manual's table of them, and the words in the page. Without
---write it tells which of these say something else. In both ways it tells which option has no entry in docs/zkit.1,
-and which finding no row in the manual. The status is 1 where it tells something.
+docs/zkit.1, the ranges and defaults in the manual's table, in the page for man and in include/zkit.h, and the files of
+completions/, those of zkit-screen from the help in screen/main.c. The options of sections are those of
+crates/zk_inspect/src/section.rt. The words of findings are those of crates/zk_inspect/src/check/finding.rt. From it
+come the manual's table of them, and the words in the page. --check, as no word, tells which of these say something
+else; --write puts them right. In both ways it tells which option has no entry in docs/zkit.1, and which finding no row
+in the manual. The status is 1 where it tells something.
 """
 
 from __future__ import annotations
@@ -17,81 +19,18 @@ import re
 import sys
 import textwrap
 from pathlib import Path
-from typing import NamedTuple, Optional
 
 TOP = Path(__file__).resolve().parent.parent
 sys.dont_write_bytecode = True
 sys.path.append(str(TOP / "conformance"))
 
+from completions import completions  # noqa: E402: it writes no byte code either
 from ending import end_with  # noqa: E402: it stands in the folder that was just named
+from option_table import Option, read_commands  # noqa: E402
 
-TABLE = TOP / "crates" / "zk_command" / "src" / "options.rt"
-SECTIONS = TOP / "crates" / "zk_inspect" / "src" / "section.rt"
 FINDINGS = TOP / "crates" / "zk_inspect" / "src" / "check" / "finding.rt"
 LISTINGS = TOP / "docs" / "manual" / "listings.md"
 DRAWINGS = TOP / "web" / "page" / "drawings.js"
-
-
-# What stands after an option of each kind.
-VALUES = {"File": "FILE", "Folder": "FOLDER", "Address": "ADDRESS", "Flag": ""}
-
-
-class Option(NamedTuple):
-    """An option: its name, what stands after it, and of one with a number its range, default and word for one found."""
-
-    name: str
-    value: str
-    least: int = 0
-    most: int = 0
-    default: Optional[int] = None
-    word: str = ""
-
-    def values(self) -> str:
-        """What stands after the option."""
-        return f"{self.value}|{self.word}" if self.word else self.value
-
-    def usage(self) -> str:
-        """The option as a usage line has it."""
-        again = "..." if self.value == VALUES["Address"] else ""
-        return f"[--{self.name}{self.value and ' ' + self.values()}]{again}"
-
-
-def read_numbers(text: str) -> dict[str, Option]:
-    """The options with a number, by the names of their constants."""
-    row = (
-        r'const (\w+): NumberOption =\s*number!\(\s*"(\w+)",\s*(?:Some\("(\d+)"\)|None),\s*(\d+) to (\d+),'
-        r'\s*"[^"]*"(?:,\s*or "(\w+)")?'
-    )
-    found = re.findall(row, text)
-    return {
-        constant: Option(name, "n", int(least), int(most), int(default) if default else None, word)
-        for constant, name, default, least, most, word in found
-    }
-
-
-def read_shared(text: str) -> dict[str, Option]:
-    """The options that several commands have, by the names of their constants."""
-    row = r'const (\w+): CommandOption = CommandOption::(File|Folder|Flag) \{\s*name: "([\w-]+)"'
-    return {constant: Option(name, VALUES[kind]) for constant, kind, name in re.findall(row, text)}
-
-
-def read_options(text: str, constant: str) -> list[Option]:
-    """The options of a command, in their order."""
-    known = {**read_numbers(text), **read_shared(text)}
-    listed = text[text.index(f"const {constant}:"):].split("= [", 1)[1].split("];")[0]
-    row = r'CommandOption::(?:Number\((\w+)\)|(File|Folder|Address|Flag) \{\s*name: "([\w-]+)")|\b([A-Z_]{4,}),?'
-    listed = re.sub(r'help: ".*"', "", listed)
-    return [
-        known[number or shared] if number or shared else Option(name, VALUES[kind])
-        for number, kind, name, shared in re.findall(row, listed)
-    ]
-
-
-def read_sections(text: str) -> list[Option]:
-    """The options of sections, in the order in which these are shown."""
-    listed = text.split("const SECTIONS:", 1)[1].split("];")[0]
-    names = dict(re.findall(r'Section::(\w+) => "([\w-]+)",', text.split("pub fn name", 1)[1].split("pub fn ")[0]))
-    return [Option(names[it], VALUES["Flag"]) for it in re.findall(r"\bSection::(\w+),", listed)]
 
 
 def usage_lines(command: str, options: list[Option], last: str) -> str:
@@ -164,19 +103,6 @@ def with_meanings(text: str, findings: list[tuple[int, str, str]]) -> str:
     return re.sub(r"(?s)(const MEANINGS = \{\n).*?(?=\};)", lambda found: found[1] + lines, text)
 
 
-def read_commands() -> list[tuple[str, list[Option], str]]:
-    """The commands with options: the name of each, its options, and what stands behind them."""
-    text = TABLE.read_text("utf-8")
-    sections = read_sections(SECTIONS.read_text("utf-8"))
-    return [
-        ("play", read_options(text, "PLAY_OPTIONS"), "STORY"),
-        ("info", sections + read_options(text, "INFO_OPTIONS"), "STORY..."),
-        ("disasm", read_options(text, "DISASM_OPTIONS"), "STORY"),
-        ("check", read_options(text, "CHECK_OPTIONS"), "STORY..."),
-        ("test", read_options(text, "TEST_OPTIONS"), "PATH..."),
-    ]
-
-
 def lacking() -> list[str]:
     """What the pages lack: an entry in the page for man for each option, and a row in the manual for each finding."""
     manual, listings = (TOP / "docs" / "zkit.1").read_text("utf-8"), LISTINGS.read_text("utf-8")
@@ -209,17 +135,18 @@ def made() -> dict[Path, str]:
     findings = read_findings(FINDINGS.read_text("utf-8"))
     pages[LISTINGS] = with_findings(pages[LISTINGS], findings)
     pages[DRAWINGS] = with_meanings(DRAWINGS.read_text("utf-8"), findings)
+    pages.update({TOP / "completions" / name: text for name, text in completions().items()})
     return pages
 
 
 def main() -> int:
     """Writes the pages, or tells which are not as they have to be, and in both ways what they lack."""
-    if sys.argv[1:] not in ([], ["--write"]):
+    if sys.argv[1:] not in ([], ["--check"], ["--write"]):
         sys.exit(__doc__)
     pages = made()
     told = lacking()
     for path, text in pages.items():
-        if path.read_text("utf-8") == text:
+        if path.exists() and path.read_text("utf-8") == text:
             continue
         if sys.argv[1:] == ["--write"]:
             path.write_text(text, "utf-8")

@@ -4,6 +4,7 @@
 #define _XOPEN_SOURCE 700
 #endif
 #include "files.h"
+#include "grid.h"
 #include "kept.h"
 #include "line.h"
 #include "text.h"
@@ -208,6 +209,78 @@ static void try_kept(void) {
     text_close(&again);
 }
 
+/* ---- rows of the upper window, from a game of one row */
+
+static const char *told_text;
+static const uint8_t *told_styles;
+static size_t told_count;
+
+size_t zkit_row(const zkit *game, uint32_t row, uint8_t *buffer, size_t length) {
+    TRY(!game && row == 7 && strlen(told_text) <= length);
+    memcpy(buffer, told_text, strlen(told_text));
+    return strlen(told_text);
+}
+
+size_t zkit_row_styles(const zkit *game, uint32_t row, uint8_t *buffer, size_t length) {
+    TRY(!game && row == 7 && told_count <= length);
+    memcpy(buffer, told_styles, told_count);
+    return told_count;
+}
+
+size_t zkit_tallest_row(const zkit *game, uint32_t row, uint8_t *buffer, size_t length) {
+    TRY(!game && row == 8 && length > 0);
+    buffer[0] = 't';
+    return 1;
+}
+
+size_t zkit_tallest_row_styles(const zkit *game, uint32_t row, uint8_t *buffer, size_t length) {
+    TRY(!game && row == 8 && length > 0);
+    buffer[0] = ZKIT_BOLD;
+    return 1;
+}
+
+/* Reads a row of some text and styles, each a digit, and squeezes it. */
+static void squeezed(struct row *row, const char *text, const char *styles, int columns) {
+    uint8_t numbers[WIDEST];
+    told_text = text;
+    told_styles = numbers;
+    told_count = strlen(styles);
+    for (size_t i = 0; i < told_count; i++)
+        numbers[i] = (uint8_t)(styles[i] - '0');
+    grid_row(row, NULL, 7, false);
+    grid_squeeze(row, columns);
+}
+
+/* Says whether a row has these characters and styles. */
+static bool has(const struct row *row, const wchar_t *characters, const char *styles) {
+    bool is_so = (size_t)row->length == wcslen(characters) && (size_t)row->length == strlen(styles);
+    for (int i = 0; is_so && i < row->length; i++)
+        is_so = row->at[i] == characters[i] && row->styles[i] == styles[i] - '0';
+    return is_so;
+}
+
+/* A row has as many cells as styles are told; its widest gap of one style is made smaller, and of two the last. */
+static void try_grid(void) {
+    struct row row;
+    squeezed(&row, "\303\251\346\227\245 a", "11025", 80);
+    TRY(has(&row, L"\u00e9\u65e5 a ", "11025") && row.from[4] == 4);
+    squeezed(&row, "", "", 80);
+    TRY(row.length == 0 && grid_column(&row, 0) == 0 && grid_column(&row, 9) == 9);
+    grid_row(&row, NULL, 8, true);
+    TRY(has(&row, L"t", "2"));
+    squeezed(&row, " a    b  c", "1111111111", 7);
+    TRY(has(&row, L" a  b c", "1111111"));
+    TRY(grid_column(&row, 1) == 1 && grid_column(&row, 6) == 4);
+    TRY(grid_column(&row, 9) == 6 && grid_column(&row, 12) == 9);
+    squeezed(&row, "a      b", "01110000", 6);
+    TRY(has(&row, L"a    b", "011000"));
+    squeezed(&row, "a  b c", "000000", 3);
+    TRY(has(&row, L"a b c", "00000"));
+    squeezed(&row, "a", "001", 80);
+    TRY(grid_is_seen(&row, 0, false) && !grid_is_seen(&row, 1, false) && grid_is_seen(&row, 2, false));
+    TRY(grid_is_seen(&row, 0, true) && !grid_is_seen(&row, 1, true) && !grid_is_seen(&row, 2, true));
+}
+
 int main(int count, char **words) {
     if (count != 2 || !setlocale(LC_ALL, "C.UTF-8"))
         return 2;
@@ -219,6 +292,7 @@ int main(int count, char **words) {
     try_files(words[1]);
     try_saves(words[1]);
     try_kept();
+    try_grid();
     printf("%d tries\n", tries);
     return 0;
 }

@@ -1,0 +1,86 @@
+# Completes the words of zkit in fish. tools/options.py --write makes this file of the table of options.
+
+# Prints folders, and the files with some endings, or all files if there are none of these.
+function __zkit_files
+    set -l all (complete -C "__fish_command_without_completions "(commandline -ct) | string replace -r '\t.*' '')
+    set -l meant (string match -ri "^.*\.(?:$argv[1])\$" -- $all)
+    set -q meant[1]; and printf '%s\n' $meant (string match '*/' -- $all); or printf '%s\n' $all
+end
+
+complete -c zkit -f
+complete -c zkit -n __fish_use_subcommand -l help -d 'Shows help'
+complete -c zkit -n __fish_use_subcommand -l version -d 'Shows the version'
+
+complete -c zkit -n __fish_use_subcommand -a play -d 'Plays a story'
+complete -c zkit -n '__fish_seen_subcommand_from play' -l frames -x -d 'The most routines that may be open at once, 1 to 65535'
+complete -c zkit -n '__fish_seen_subcommand_from play' -l words -x -d 'The most words that the open routines may hold, 0 to 65535'
+complete -c zkit -n '__fish_seen_subcommand_from play' -l undo -x -d 'How many undo states are kept, 0 to 64'
+complete -c zkit -n '__fish_seen_subcommand_from play' -l steps -x -d 'The most instructions a story may run between two inputs, 1 to 1000000000'
+complete -c zkit -n '__fish_seen_subcommand_from play' -l seed -x -a any -d 'Seed for random numbers, 0 to 18446744073709551615; any takes one from the clock'
+complete -c zkit -n '__fish_seen_subcommand_from play' -l save -r -F -d 'Saves to and restores from this file, which each save overwrites'
+complete -c zkit -n '__fish_seen_subcommand_from play' -l saves -x -a '(__fish_complete_directories)' -d 'Keeps saved games in this folder, and asks for a name each time'
+complete -c zkit -n '__fish_seen_subcommand_from play' -l script -r -F -d 'Writes the story\'s transcript to this file, emptied first'
+complete -c zkit -n '__fish_seen_subcommand_from play' -l upper -d 'Shows the status line and the upper window, on lines of their own'
+complete -c zkit -n '__fish_seen_subcommand_from play' -l boxes -d 'Shows the status line and the upper window above the prompt, including quotation boxes'
+complete -c zkit -n '__fish_seen_subcommand_from play' -l width -x -a auto -d 'Wraps lines at this many columns, 20 to 255; auto uses the terminal\'s width'
+complete -c zkit -n '__fish_seen_subcommand_from play' -l page -x -a auto -d 'Pauses after this many lines at a terminal, 2 to 1000; auto fits its height'
+complete -c zkit -n '__fish_seen_subcommand_from play' -l echo -d 'Repeats each line of input, for input from a pipe'
+complete -c zkit -n '__fish_seen_subcommand_from play' -l record -r -F -d 'Records the commands to this file as a walkthrough, emptied first'
+complete -c zkit -n '__fish_seen_subcommand_from play' -l calls -d 'Prints the call stack after a fault or limit'
+complete -c zkit -n '__fish_seen_subcommand_from play' -l cover -r -F -d 'Adds the addresses of executed instructions to this coverage file'
+complete -c zkit -n '__fish_seen_subcommand_from play' -l help -d 'Shows help'
+complete -c zkit -n '__fish_seen_subcommand_from play' -a '(__zkit_files "z3|z4|z5|z8|zblorb|zlb|blorb|blb")'
+
+complete -c zkit -n __fish_use_subcommand -a info -d 'Lists the tables of stories; without an option, their headers'
+complete -c zkit -n '__fish_seen_subcommand_from info' -l header -d 'Lists the header'
+complete -c zkit -n '__fish_seen_subcommand_from info' -l map -d 'Lists where the parts of the story begin'
+complete -c zkit -n '__fish_seen_subcommand_from info' -l abbreviations -d 'Lists the abbreviations'
+complete -c zkit -n '__fish_seen_subcommand_from info' -l dictionary -d 'Lists the words of the dictionary'
+complete -c zkit -n '__fish_seen_subcommand_from info' -l objects -d 'Lists the objects with their properties'
+complete -c zkit -n '__fish_seen_subcommand_from info' -l tree -d 'Lists the tree of objects'
+complete -c zkit -n '__fish_seen_subcommand_from info' -l ifid -d 'Lists the IFID, by which catalogues name the story'
+complete -c zkit -n '__fish_seen_subcommand_from info' -l strings -d 'Lists the strings in high memory'
+complete -c zkit -n '__fish_seen_subcommand_from info' -l properties -d 'Lists the properties of the objects with their bytes'
+complete -c zkit -n '__fish_seen_subcommand_from info' -l globals -d 'Lists the global variables with their first values'
+complete -c zkit -n '__fish_seen_subcommand_from info' -l alphabets -d 'Lists the letters of the alphabets, and the extra characters'
+complete -c zkit -n '__fish_seen_subcommand_from info' -l extension -d 'Lists the header extension table'
+complete -c zkit -n '__fish_seen_subcommand_from info' -l notes -d 'Adds explanations'
+complete -c zkit -n '__fish_seen_subcommand_from info' -l graph -d 'Prints the tree of objects as a Graphviz graph'
+complete -c zkit -n '__fish_seen_subcommand_from info' -l svg -d 'Prints the map as an SVG picture'
+complete -c zkit -n '__fish_seen_subcommand_from info' -l rows -d 'Prints tab-separated rows, one fact a line, the path first'
+complete -c zkit -n '__fish_seen_subcommand_from info' -l json -d 'Prints one JSON object a story, each on a line'
+complete -c zkit -n '__fish_seen_subcommand_from info' -l recursive -d 'Searches folders, and the folders in them'
+complete -c zkit -n '__fish_seen_subcommand_from info' -l files-from -r -F -d 'Reads paths from this file, or from standard input for -, separated by new lines or zero bytes'
+complete -c zkit -n '__fish_seen_subcommand_from info' -l help -d 'Shows help'
+complete -c zkit -n '__fish_seen_subcommand_from info' -a '(__zkit_files "z3|z4|z5|z8|zblorb|zlb|blorb|blb")'
+
+complete -c zkit -n __fish_use_subcommand -a disasm -d 'Disassembles the code reachable from the start'
+complete -c zkit -n '__fish_seen_subcommand_from disasm' -l all -d 'Also lists unreached routines'
+complete -c zkit -n '__fish_seen_subcommand_from disasm' -l at -x -d 'Also disassembles from the instruction at this byte address'
+complete -c zkit -n '__fish_seen_subcommand_from disasm' -l routine -x -d 'Also disassembles the routine at this byte address'
+complete -c zkit -n '__fish_seen_subcommand_from disasm' -l cover -r -F -d 'Also disassembles from the addresses in this coverage file, and marks them'
+complete -c zkit -n '__fish_seen_subcommand_from disasm' -l notes -d 'Adds explanations'
+complete -c zkit -n '__fish_seen_subcommand_from disasm' -l graph -d 'Prints the call graph, for Graphviz'
+complete -c zkit -n '__fish_seen_subcommand_from disasm' -l help -d 'Shows help'
+complete -c zkit -n '__fish_seen_subcommand_from disasm' -a '(__zkit_files "z3|z4|z5|z8|zblorb|zlb|blorb|blb")'
+
+complete -c zkit -n __fish_use_subcommand -a check -d 'Checks stories for damage and mistakes, and ends with status 6 if it finds any'
+complete -c zkit -n '__fish_seen_subcommand_from check' -l notes -d 'Adds explanations'
+complete -c zkit -n '__fish_seen_subcommand_from check' -l summary -d 'Adds a count of all findings, by kind'
+complete -c zkit -n '__fish_seen_subcommand_from check' -l rows -d 'Prints tab-separated rows, one fact a line, the path first'
+complete -c zkit -n '__fish_seen_subcommand_from check' -l json -d 'Prints one JSON object a story, each on a line'
+complete -c zkit -n '__fish_seen_subcommand_from check' -l recursive -d 'Searches folders, and the folders in them'
+complete -c zkit -n '__fish_seen_subcommand_from check' -l files-from -r -F -d 'Reads paths from this file, or from standard input for -, separated by new lines or zero bytes'
+complete -c zkit -n '__fish_seen_subcommand_from check' -l help -d 'Shows help'
+complete -c zkit -n '__fish_seen_subcommand_from check' -a '(__zkit_files "z3|z4|z5|z8|zblorb|zlb|blorb|blb")'
+
+complete -c zkit -n __fish_use_subcommand -a test -d 'Plays walkthroughs and compares the output with their transcripts'
+complete -c zkit -n '__fish_seen_subcommand_from test' -l files-from -r -F -d 'Reads paths from this file, or from standard input for -, separated by new lines or zero bytes'
+complete -c zkit -n '__fish_seen_subcommand_from test' -l story -r -F -d 'Default story, for walkthroughs that name none'
+complete -c zkit -n '__fish_seen_subcommand_from test' -l bless -d 'Writes the expected transcripts instead of comparing them'
+complete -c zkit -n '__fish_seen_subcommand_from test' -l help -d 'Shows help'
+complete -c zkit -n '__fish_seen_subcommand_from test' -a '(__zkit_files "walkthrough")'
+
+complete -c zkit -n __fish_use_subcommand -a unpack -d 'Takes the story out of a Blorb file'
+complete -c zkit -n '__fish_seen_subcommand_from unpack' -l help -d 'Shows help'
+complete -c zkit -n '__fish_seen_subcommand_from unpack' -a '(__zkit_files "zblorb|zlb|blorb|blb")'
