@@ -18,9 +18,9 @@ void grid_row(struct row *row, const zkit *game, uint32_t number, bool is_talles
         row->at[row->length++] = L' ';
 }
 
-/* Finds the last cell of the longest run of spaces of one style, of the last one of several: -1 if all are single. */
+/* Finds the last cell of the longest run of spaces of one style, of the last one of several: 0 if all are single. */
 static int widest_gap(const struct row *row) {
-    int found = -1, longest = 2, length = 0;
+    int found = 0, longest = 2, length = 0;
     for (int i = 0; i < row->length; i++) {
         if (row->at[i] != L' ' || (i > 0 && row->styles[i] != row->styles[i - 1]))
             length = 0;
@@ -34,7 +34,7 @@ static int widest_gap(const struct row *row) {
 }
 
 void grid_squeeze(struct row *row, int columns) {
-    for (int gap; row->length > columns && (gap = widest_gap(row)) >= 0;) {
+    for (int gap; row->length > columns && (gap = widest_gap(row)) > 0;) {
         size_t behind = (size_t)(--row->length - gap);
         memmove(row->at + gap, row->at + gap + 1, behind * sizeof *row->at);
         memmove(row->styles + gap, row->styles + gap + 1, behind * sizeof *row->styles);
