@@ -4,7 +4,6 @@
 #include "grid.h"
 
 #include <stdio.h>
-#include <stdlib.h>
 #include <string.h>
 
 enum { LONGEST_MARK = 512 };
@@ -238,13 +237,7 @@ struct mark {
 
 /* Reads words and wraps them into so many rows at most. What is left then is not shown. */
 static void read_mark(struct mark *mark, const char *words, int most) {
-    size_t length = 0, start = 0;
-    for (const char *end = words + strlen(words); words < end && length < LONGEST_MARK; length++) {
-        int taken = mbtowc(&mark->words[length], words, (size_t)(end - words));
-        if (taken < 0)
-            mark->words[length] = L'?';
-        words += taken > 0 ? taken : 1;
-    }
+    size_t length = wide_of(words, strlen(words), mark->words, LONGEST_MARK), start = 0;
     for (mark->rows = 0; start < length && mark->rows < most; mark->rows++)
         mark->ends[mark->rows] = start = end_of_row(mark->words, start, length, COLS);
 }

@@ -142,6 +142,18 @@ place text_rows_on(const struct text *text, place row, int rows, int columns) {
     return row;
 }
 
+size_t wide_of(const char *bytes, size_t count, wchar_t *characters, size_t most) {
+    size_t length = 0;
+    for (size_t i = 0; i < count && length < most; length++) {
+        mbstate_t state = {0};
+        size_t taken = mbrtowc(&characters[length], bytes + i, count - i, &state);
+        if (taken > count)
+            characters[length] = L'?';
+        i += taken > 0 && taken <= count ? taken : 1;
+    }
+    return length;
+}
+
 size_t bytes_of(const wchar_t *characters, size_t length, char *bytes) {
     size_t count = 0;
     for (size_t i = 0; i < length; i++) {

@@ -60,6 +60,9 @@ place text_previous_row(const struct text *text, place row, int columns);
 /* Goes down some rows, or up, as far as there are any. */
 place text_rows_on(const struct text *text, place row, int rows, int columns);
 
+/* Reads UTF-8 into so many wide characters at most, and answers how many. Bytes that are none are read as `?`. */
+size_t wide_of(const char *bytes, size_t count, wchar_t *characters, size_t most);
+
 /* The bytes of wide characters as UTF-8, with a 0 at their end; four for each character are enough. */
 size_t bytes_of(const wchar_t *characters, size_t length, char *bytes);
 

@@ -259,15 +259,26 @@ static bool has(const struct row *row, const wchar_t *characters, const char *st
     return is_so;
 }
 
+/* Bytes that are no UTF-8 are read as question marks, and no more characters are read than there is room for. */
+static void try_wide(void) {
+    wchar_t read[4] = L"....";
+    TRY(wide_of("\303\251\377a", 4, read, 4) == 3 && wcsncmp(read, L"\u00e9?a.", 4) == 0);
+    TRY(wide_of("\200\303", 2, read, 4) == 2 && wcsncmp(read, L"??a.", 4) == 0);
+    TRY(wide_of("b\0cd", 4, read, 3) == 3 && wmemcmp(read, L"b\0c.", 4) == 0);
+    TRY(wide_of("", 0, read, 3) == 0 && read[0] == L'b');
+}
+
 /* A row has as many cells as styles are told; its widest gap of one style is made smaller, and of two the last. */
 static void try_grid(void) {
     struct row row;
     squeezed(&row, "\303\251\346\227\245 a", "11025", 80);
     TRY(has(&row, L"\u00e9\u65e5 a ", "11025") && row.from[4] == 4);
+    squeezed(&row, "ab", "1", 80);
+    TRY(has(&row, L"ab", "10"));
     squeezed(&row, "", "", 80);
     TRY(row.length == 0 && grid_column(&row, 0) == 0 && grid_column(&row, 9) == 9);
     grid_row(&row, NULL, 8, true);
-    TRY(has(&row, L"t", "2"));
+    TRY(has(&row, L"t", "2") && grid_column(&row, 0) == 0 && grid_column(&row, 1) == 1 && grid_column(&row, 5) == 5);
     squeezed(&row, " a    b  c", "1111111111", 7);
     TRY(has(&row, L" a  b c", "1111111"));
     TRY(grid_column(&row, 1) == 1 && grid_column(&row, 6) == 4);
@@ -276,6 +287,15 @@ static void try_grid(void) {
     TRY(has(&row, L"a    b", "011000"));
     squeezed(&row, "a  b c", "000000", 3);
     TRY(has(&row, L"a b c", "00000"));
+    squeezed(&row, "  a", "000", 2);
+    TRY(has(&row, L" a", "00"));
+    squeezed(&row, "   a", "0111", 3);
+    TRY(has(&row, L"  a", "011"));
+    char longest[301];
+    memset(longest, 'a', 300);
+    longest[300] = 0;
+    squeezed(&row, longest, "", 80);
+    TRY(row.length == WIDEST && row.at[WIDEST - 1] == L'a' && row.from[WIDEST - 1] == WIDEST - 1);
     squeezed(&row, "a", "001", 80);
     TRY(grid_is_seen(&row, 0, false) && !grid_is_seen(&row, 1, false) && grid_is_seen(&row, 2, false));
     TRY(grid_is_seen(&row, 0, true) && !grid_is_seen(&row, 1, true) && !grid_is_seen(&row, 2, true));
@@ -292,6 +312,7 @@ int main(int count, char **words) {
     try_files(words[1]);
     try_saves(words[1]);
     try_kept();
+    try_wide();
     try_grid();
     printf("%d tries\n", tries);
     return 0;
