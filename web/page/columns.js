@@ -73,20 +73,20 @@ export function isWidth(it) {
     return Number.isInteger(it) && it >= LEAST && it <= MOST;
 }
 
-/** Where the header has the width: as a byte, and as a word, each with the opcode that reads it (`loadb`, `loadw`). */
-const PLACES = [[33, 0x10], [17, 0x0f]];
-
 /**
- * Whether a story looks for the width somewhere: by the opcode with the two small numbers, or by Inform's own routine
- * for it, which is called with them.
+ * Whether a story reads an array of the header somewhere: 0 and a number stand behind the opcode for that, in either
+ * order, or they are given to a routine, as Inform does.
  * @param {Uint8Array} story
+ * @param {number} opcode
+ * @param {number} number
  */
-function looksForWidth(story) {
-    const has = (/** @type {number} */ i, /** @type {number[]} */ ...bytes) =>
-        bytes.every((byte, j) => story[i + j] === byte);
-    return story.some((byte, i) => PLACES.some(([place, opcode]) => (byte === 0 || byte === place)
-        && story[i + 1] === place - byte && (has(i - 1, opcode) || has(i - 4, 0xe0, 0x17))));
+function reads(story, opcode, number) {
+    return story.some((byte, i) => byte + story[i + 1] === number && byte * story[i + 1] === 0
+        && (story[i - 1] === opcode || story[i - 4] === 0xe0 && story[i - 3] === 0x17));
 }
+
+/** The opcodes `loadb` and `loadw`, with the place of the width in the header as a byte and as a word. */
+const PLACES = [[0x10, 33], [0x0f, 17]];
 
 /**
  * How many columns a story is told. One that never looks for them has a screen of the usual width: it places its text
@@ -94,5 +94,5 @@ function looksForWidth(story) {
  * @param {Uint8Array} story
  */
 export function columnsFor(story) {
-    return looksForWidth(story) ? columnsNow() : USUAL;
+    return PLACES.some(([opcode, number]) => reads(story, opcode, number)) ? columnsNow() : USUAL;
 }
