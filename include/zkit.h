@@ -419,8 +419,7 @@ size_t zkit_row(const zkit *game, uint32_t row, uint8_t *buffer, size_t length);
 /* The same for a row of the tallest grid since the last answer to a read. */
 size_t zkit_tallest_row(const zkit *game, uint32_t row, uint8_t *buffer, size_t length);
 
-/* Puts the styles of the cells of a row of the upper window, from 1 on, at the front of a buffer, a byte for
-    each, or as
+/* Puts the styles of the cells of a row of the upper window, from 1 on, at the front of a buffer, a byte for each, or as
  * many as fit; returns how many, at most the width. A style is the sum of ZKIT_REVERSE .. ZKIT_FIXED, as for a run, but
  * all of the upper window is shown with a fixed pitch anyway. Cells after the last one told are empty. A row may have
  * more cells here than characters in zkit_row: spaces in reverse are seen. */
