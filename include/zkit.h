@@ -386,7 +386,8 @@ size_t zkit_longest_snapshot(const zkit *game, size_t undo_bytes);
  * The game has the limits in the snapshot, and includes the upper window in the text if the earlier game did.
  *
  * options  the most that frames, words, undo and steps of the snapshot may be, and `room`; null for any limits and the
- *          room of zkit_defaults. The game keeps the width of the snapshot, whatever `columns` says. Fields past its size have the values of zkit_defaults.
+ *          room of zkit_defaults. Fields past its size have the values of zkit_defaults. The width is the snapshot's,
+ *          whatever `columns` says.
  *
  * If there are several reasons not to open the game, an option out of its range comes first, then the first reason
  * about the story, then the first about the snapshot, 8 to 11, then a limit of the snapshot that is greater than the
@@ -419,8 +420,8 @@ size_t zkit_row(const zkit *game, uint32_t row, uint8_t *buffer, size_t length);
 /* The same for a row of the tallest grid since the last answer to a read. */
 size_t zkit_tallest_row(const zkit *game, uint32_t row, uint8_t *buffer, size_t length);
 
-/* Puts the styles of the cells of a row of the upper window, from 1 on, at the front of a buffer, a byte each, or as many
- * as fit; returns how many, at most the width. A style is the sum of ZKIT_REVERSE .. ZKIT_FIXED, as for a run, but
+/* Puts the styles of the cells of a row of the upper window, from 1 on, at the front of a buffer, a byte each, or as
+ * many as fit; returns how many, at most the width. A style is the sum of ZKIT_REVERSE .. ZKIT_FIXED, as for a run, but
  * all of the upper window is shown with a fixed pitch anyway. Cells after the last one told are empty. A row may have
  * more cells here than characters in zkit_row: spaces in reverse are seen. */
 size_t zkit_row_styles(const zkit *game, uint32_t row, uint8_t *buffer, size_t length);
