@@ -184,6 +184,25 @@ static uint32_t columns_of_screen(void) {
     return columns < ZKIT_MOST_COLUMNS ? (uint32_t)columns : ZKIT_MOST_COLUMNS;
 }
 
+/* Whether a story reads an array of the header somewhere: 0 and a number stand behind the opcode for that, in either
+ * order, or they are given to a routine, as Inform does. */
+static bool reads_header(const uint8_t *story, size_t length, uint8_t opcode, uint8_t number) {
+    for (size_t i = 4; i + 1 < length; i++) {
+        bool is_pair = (story[i] == 0 && story[i + 1] == number) || (story[i] == number && story[i + 1] == 0);
+        if (is_pair && (story[i - 1] == opcode || (story[i - 4] == 0xe0 && story[i - 3] == 0x17)))
+            return true;
+    }
+    return false;
+}
+
+/* How many columns the story is told. One that never looks for them, by loadb or loadw, places its text for the usual
+ * ones. */
+static uint32_t columns_for_story(void) {
+    bool looks = reads_header(play.story, play.story_length, 0x10, 33)
+        || reads_header(play.story, play.story_length, 0x0f, 17);
+    return looks ? columns_of_screen() : ZKIT_COLUMNS;
+}
+
 /* Asks whether the play that was kept goes on. If not, or if there is none, the story begins. */
 static void go_on_or_begin(void) {
     uint64_t seed = play.options.seed;
@@ -193,7 +212,7 @@ static void go_on_or_begin(void) {
     if (pressed == L'y')
         return;
     play.options.seed = seed;
-    play.options.columns = columns_of_screen();
+    play.options.columns = columns_for_story();
     if (pressed != L'n' || open_new(&play) != ZKIT_OPENED)
         play.is_left = true;
 }
