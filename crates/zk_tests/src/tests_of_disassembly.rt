@@ -32,7 +32,14 @@ pub(crate) fn story_from(
     let mut file = header.to_vec(alloc)?;
     file.extend_from_slice(code)?;
     let story = Story::open(alloc, file.as_slice())?;
-    Ok(Memory::start(alloc, story, Setup { undo_states: 16, screen: ScreenSetup::plain() })?)
+    Ok(Memory::start(
+        alloc,
+        story,
+        Setup {
+            undo_states: 16,
+            screen: ScreenSetup::plain(),
+        },
+    )?)
 }
 
 /// The disassembly of such a story.

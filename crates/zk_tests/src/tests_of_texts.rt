@@ -30,7 +30,14 @@ pub(crate) fn memory_of(
         }
     }
     let story = Story::open(alloc, file.as_slice())?;
-    Ok(Memory::start(alloc, story, Setup { undo_states: 0, screen: ScreenSetup::plain() })?)
+    Ok(Memory::start(
+        alloc,
+        story,
+        Setup {
+            undo_states: 0,
+            screen: ScreenSetup::plain(),
+        },
+    )?)
 }
 
 /// A word address of an abbreviation, the abbreviation, and a text at $44 that uses it.

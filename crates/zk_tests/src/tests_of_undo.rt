@@ -18,7 +18,14 @@ pub(crate) fn started(rt: &(impl Abort + AllocGlobal)) -> Result<Memory, Fail> {
     bytes[0x5f] = 9;
     bytes[0x60] = 9;
     let story = Story::open(rt.alloc(), bytes.as_slice())?;
-    Ok(Memory::start(rt.alloc(), story, Setup { undo_states: 2, screen: ScreenSetup::plain() })?)
+    Ok(Memory::start(
+        rt.alloc(),
+        story,
+        Setup {
+            undo_states: 2,
+            screen: ScreenSetup::plain(),
+        },
+    )?)
 }
 
 /// The first frame, with a word.

@@ -54,7 +54,14 @@ pub(crate) fn story(
     bytes[0x07] = 0x40;
     bytes[0x0f] = static_base;
     let story = Story::open(alloc, &bytes)?;
-    Ok(Memory::start(alloc, story, Setup { undo_states: 0, screen: ScreenSetup::plain() })?)
+    Ok(Memory::start(
+        alloc,
+        story,
+        Setup {
+            undo_states: 0,
+            screen: ScreenSetup::plain(),
+        },
+    )?)
 }
 
 /// Whether the bytes that hexadecimal digits say stand from an address on.
