@@ -113,8 +113,7 @@ with_tables a [] = a
 with_tables a (t ∷ ts) = with_tables (with_subcommand a (table_command t).top) ts
 
 -- `play [--frames n] [--words n] [--undo n] [--steps n] [--seed n] [--save FILE] [--saves FOLDER] [--script FILE]
--- [--upper] [--boxes] [--width n]
--- [--page n] [--echo] [--record FILE] [--calls] [--cover FILE] STORY`
+-- [--upper] [--boxes] [--width n] [--page n] [--styles] [--echo] [--record FILE] [--calls] [--cover FILE] STORY`
 abbrev pub play_command : App
 play_command = with_rules (new_app (codes "play")) (
     number_option (codes "frames") (codes "1024")
@@ -129,6 +128,7 @@ play_command = with_rules (new_app (codes "play")) (
     ∷ flag (codes "boxes")
     ∷ value_option (codes "width")
     ∷ value_option (codes "page")
+    ∷ flag (codes "styles")
     ∷ flag (codes "echo")
     ∷ value_option (codes "record")
     ∷ flag (codes "calls")
@@ -262,8 +262,8 @@ abbrev pub SaysText : {S : Type 0} → (S → Text) → List Row → Text → Op
 SaysText {S} text rows option said = option_map text said ≡ first_of option rows
 
 -- what clap found says the options of a play: the limits, the seed, the view, whether boxes are shown, files, the
--- columns of the screen and the lines of a page, whether what is read is shown, and calls are told, and the file of
--- addresses that ran
+-- columns of the screen and the lines of a page, whether styles are shown, and what is read, and calls are told, and the
+-- file of addresses that ran
 pub record SaysOptions (rows : List Row) (o : PlayOptions) : Type 0 where
   pub limits : SaysLimits rows o.limits
   pub seed : SaysSeed rows o.seed
@@ -275,6 +275,7 @@ pub record SaysOptions (rows : List Row) (o : PlayOptions) : Type 0 where
   pub recorded : SaysText (λ s. s.now) rows (codes "record") o.recorded
   pub width : MaySayAmount rows (codes "width") 20 255 (Some (codes "auto")) o.width
   pub page : MaySayAmount rows (codes "page") 2 1000 (Some (codes "auto")) o.page
+  pub styles : o.styles ≡ flag_said (first_of (codes "styles") rows)
   pub echo : o.echo ≡ flag_said (first_of (codes "echo") rows)
   pub calls : o.calls ≡ flag_said (first_of (codes "calls") rows)
   pub cover : SaysText (λ s. s.now) rows (codes "cover") o.cover

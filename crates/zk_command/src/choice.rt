@@ -437,6 +437,7 @@ fn options_of<'a>(alloc: Global, play: &ArgMatches<'a>) -> Result<PlayOptions<'a
         recorded,
         width,
         page,
+        styles: has_flag(play, "styles"),
         echo: has_flag(play, "echo"),
         calls: has_flag(play, "calls"),
         cover,

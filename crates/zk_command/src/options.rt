@@ -110,7 +110,7 @@ pub(crate) const PAGE: NumberOption =
     number!("page", None, 2 to 1000, "Pauses after this many lines at a terminal", or "auto" "fits its height");
 
 /// The options of `play`.
-const PLAY_OPTIONS: [CommandOption; 17] = [
+const PLAY_OPTIONS: [CommandOption; 18] = [
     CommandOption::Number(FRAMES),
     CommandOption::Number(WORDS),
     CommandOption::Number(UNDO),
@@ -138,6 +138,10 @@ const PLAY_OPTIONS: [CommandOption; 17] = [
     },
     CommandOption::Number(WIDTH),
     CommandOption::Number(PAGE),
+    CommandOption::Flag {
+        name: "styles",
+        help: "Shows bold, italic and reverse text at a terminal",
+    },
     CommandOption::Flag {
         name: "echo",
         help: "Repeats each line of input, for input from a pipe",

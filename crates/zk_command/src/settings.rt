@@ -94,6 +94,8 @@ pub struct PlayOptions<'a> {
     pub width: Option<Amount>,
     /// After how many lines without a read Enter is waited for, 2 to 1000. Nothing is waited for without it.
     pub page: Option<Amount>,
+    /// Whether a terminal shows the styles of the text.
+    pub styles: bool,
     /// Whether lines that are read are shown after the prompt.
     pub echo: bool,
     /// Whether the calls that led to a fault or a limit are told.

@@ -15,9 +15,8 @@ windows_closed w = record w { windows = unsplit w.windows; streams = record w.st
 unfoldable pub made_roman : GameState → GameState
 made_roman w = record w { windows = record w.windows { style = roman; fixed_font = false } }
 
--- memory is put back, the first frame stands alone, and text is roman, in the normal font; random numbers and what
--- else the game state has
--- go on
+-- memory is put back, the first frame stands alone, and text is roman, in the normal font; random numbers and what else
+-- the game state has go on
 unfoldable pub begun_again : GameState → GameState
 begun_again w =
     made_roman (windows_closed (record w {

@@ -4,3 +4,4 @@ pub mod NoFile
 pub mod Records
 pub mod Files
 pub mod Terminals
+pub mod StyleCodes

@@ -15,6 +15,8 @@ pub mod same_file;
 pub mod save_file;
 pub mod script;
 pub mod shown;
+pub mod style_codes;
+pub mod style_marks;
 pub mod terminal;
 pub mod typed_bytes;
 pub mod watched;

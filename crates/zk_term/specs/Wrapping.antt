@@ -13,9 +13,10 @@ abbrev pub is_row : List ℕ → Bool
 is_row [] = false
 is_row (b ∷ line) = nat_eq b 124
 
--- each byte of UTF-8 begins a character, but those from 128 to 191
+-- Each byte of UTF-8 begins a character, but those from 128 to 191. 192 and 193 are no bytes of UTF-8 (RFC 3629,
+-- section 3): 192 stands before the number of a style, which takes no column.
 abbrev pub begins_character : ℕ → Bool
-begins_character b = nat_lt b 128 || nat_lt 191 b
+begins_character b = nat_lt b 128 || nat_lt 193 b
 
 -- how many columns bytes take: one for each character
 abbrev pub columns : List ℕ → ℕ

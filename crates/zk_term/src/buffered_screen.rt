@@ -8,8 +8,9 @@ use crate::screen::Screen;
 use crate::style::{Bleep, Style};
 use crate::target::{Failed, Target};
 
-/// Collects the UTF-8 of each character, and gives it to its target where there is much of it, and at `finish`. It
-/// passes over styles, erasures and bleeps. Once a write has failed nothing more is written to either target.
+/// Collects the UTF-8 of each character, and gives it to its target where there is much of it, before another style that
+/// the target shows, and at `finish`. It passes over erasures and bleeps. Once a write has failed nothing more is written
+/// to either target.
 #[derive(Drop)]
 pub struct BufferedScreen<'a, S, T> {
     screen: &'a mut S,
@@ -111,11 +112,11 @@ impl<'a, S: Target, T: Target> Screen for BufferedScreen<'a, S, T> {
 
     ghost full = { λ _. false };
 
-    fn text(&mut self, c: char, _style: Style) {
+    fn text(&mut self, c: char, style: Style) {
         if self.failed {
             return;
         }
-        match self.to_screen.put(self.screen, c) {
+        match self.to_screen.put_in(self.screen, c, style) {
             Ok(()) => {}
             Err(Failed) => self.failed = true,
         }

@@ -10,7 +10,8 @@ ghost use Rattle.zk_term.specs.guards.Examples.{TheTallestIsKept, GridsThatAreFo
 ghost use Rattle.zk_term.specs.guards.Examples.{CharactersAreColumns, KindsAfterAFlush, LinesBeginAnew, LinesGoOn};
 ghost use Rattle.zk_term.specs.guards.Examples.{LinesGoOnBehindASpace, LongWordsStandAlone, RowsAreNotWrapped};
 ghost use Rattle.zk_term.specs.guards.Examples.{SignalsHaveTexts, SpacesInARow, StylesAddUp, WordsFillALine};
-ghost use Rattle.zk_term.specs.guards.Examples.{WordsOfManyBytes, CellsHaveStyles, ScreensHaveAWidth};
+ghost use Rattle.zk_term.specs.guards.Examples.{WordsOfManyBytes, StylesTakeNoColumn, CellsHaveStyles};
+ghost use Rattle.zk_term.specs.guards.Examples.{ScreensHaveAWidth};
 
 /// The characters of bytes in UTF-8, and bytes that are none.
 pub fn characters_by_example()
@@ -98,4 +99,5 @@ pub fn wrapped_by_example()
     ensures lines_go_on_behind_a_space { LinesGoOnBehindASpace }
     ensures kinds_after_a_flush { KindsAfterAFlush }
     ensures words_of_many_bytes { WordsOfManyBytes }
+    ensures styles_take_no_column { StylesTakeNoColumn }
 {}

@@ -34,12 +34,12 @@ pub struct Line {
     held: ArrayVec<u8, 1024>,
 }
 
-/// How many columns a byte takes.
+/// How many columns a byte takes: none inside a character or in a style.
 fn columns_of(byte: u8) -> usize
     ensures value { result ≡ columns (byte ∷ []) }
     ensures few { result ≤ 1 }
 {
-    if byte < 128 || 191 < byte { 1 } else { 0 }
+    if byte < 128 || 193 < byte { 1 } else { 0 }
 }
 
 /// How many columns bytes take.
@@ -49,7 +49,7 @@ fn all_columns_of(bytes: &[u8]) -> usize
 {
     bytes
         .iter()
-        .filter(|byte| **byte < 128 || 191 < **byte)
+        .filter(|byte| **byte < 128 || 193 < **byte)
         .count()
 }
 

@@ -4,6 +4,8 @@ ghost use Rattle.std.specs.Prelude.{◌≡◌, ◌≤◌, ◌<◌, ◌||◌, len
 ghost use Rattle.std.specs.Io.KnownBytes.{Appends, Keeps, WriteAppends};
 ghost use Rattle.zk_term.specs.Devices.{HasJust, TookPart};
 
+use crate::style::Style;
+
 /// A read or a write that failed.
 #[derive(Clone, Copy, PartialEq, Eq, Drop)]
 pub struct Failed;
@@ -48,6 +50,20 @@ pub trait Target {
     /// Takes note that so many words of texts are looked at. Where they are more than are left, that is as a write that
     /// fails.
     fn spend(&mut self, _words: u32) -> Result<(), Failed>
+        ensures bytes { Keeps (taken self.old) (taken self.new) }
+        ensures failed { failed self.new ≡ (is_err result || failed self.old) }
+        ensures fails { OnErr result (fails self.old self.new) }
+    {
+        Ok(())
+    }
+
+    /// Whether it shows styles.
+    fn shows_styles(&self) -> bool {
+        false
+    }
+
+    /// Shows what comes next in a style, if it shows styles.
+    fn show_in(&mut self, _style: Style) -> Result<(), Failed>
         ensures bytes { Keeps (taken self.old) (taken self.new) }
         ensures failed { failed self.new ≡ (is_err result || failed self.old) }
         ensures fails { OnErr result (fails self.old self.new) }

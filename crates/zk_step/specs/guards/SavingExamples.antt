@@ -10,6 +10,7 @@ use Rattle.zk_code.specs.declared.opcode.Opcode.TheVariants as opcode
 use Rattle.zk_code.specs.declared.opcode.Saving.TheVariants.{SaveBranch, SaveStore, RestoreBranch, RestoreStore, Save}
 use Rattle.zk_code.specs.declared.opcode.Saving.TheVariants.{Restore, Restart, Verify, SaveUndo, RestoreUndo}
 use Rattle.zk_code.specs.declared.operands.Operand.TheVariants.{Variable}
+use Rattle.zk_term.specs.declared.style.Style.{Style}
 use Rattle.zk_term.specs.declared.windows.Window.TheVariants.{Upper}
 use Rattle.zk_term.specs.Windows.{Windows, printed, split, window_selected}
 use Rattle.zk_step.specs.declared.state.ending.Ending.TheVariants as ending
@@ -135,8 +136,12 @@ file_of_3 = bytes_of_3 0b11010010 1 0x23 0b10100010 77
 abbrev pub memory_of_3 : List ℕ → MemoryMap
 memory_of_3 bytes = record { version = 3; static_base = 65; bytes = bytes; file = file_of_3; setup = plain_setup 4 }
 
+-- bold text
+abbrev pub bold : Style
+bold = record { reverse = false; bold = true; italic = false; fixed = false }
+
 -- a game state whose story was at work: it has changed its header, called a routine, turned stream 1 off and opened
--- tables, and prints in the upper window
+-- tables, and prints in the upper window, in bold and with the font of a fixed pitch
 abbrev pub at_work : GameState
 at_work = record {
   memory = memory_of_3 (bytes_of_3 0 9 9 0b01010101 88);
@@ -147,18 +152,21 @@ at_work = record {
     most_words = 20;
   };
   streams = streams false (table 20 3 ∷ table 30 1 ∷ []);
-  windows = printed (codes "AB") (window_selected Upper (split 3 2 first_here));
+  windows = record (printed (codes "AB") (window_selected Upper (split 3 2 first_here))) {
+    style = bold;
+    fixed_font = true;
+  };
   generators = states 7 (Some 5);
   at_line_start = false;
   view = view.Upper;
 }
 
--- no upper window any more, but for the grid that has gone with it
+-- no upper window any more, but for the grid that has gone with it, and roman text in the normal font
 abbrev pub windows_after : Windows
 windows_after = record first_here { gone = at_work.windows.cells; gone_height = 2 }
 
 -- the bytes are the file's, but for bits 0 and 1 of Flags 2 and what an interpreter sets; the first frame stands alone;
--- there is no upper window and no open table; stream 1, random numbers and what the screen shows go on. The first
+-- there is no upper window and no open table, and text is roman in the normal font; stream 1, random numbers and what the screen shows go on. The first
 -- instruction is the one that the file names (sections 6.1.3 and 15, `restart`)
 abbrev pub RestartsBegin : Type 0
 RestartsBegin =
@@ -181,9 +189,12 @@ RestartsBegin =
       At 0x123,
     )
 
--- where a saved game is back, memory and frames are its own, and the upper window and the open tables are gone
+-- where a saved game is back, memory and frames are its own, the upper window and the open tables are gone, and the
+-- style and the font stay
 abbrev pub WindowsAreRenewed : Type 0
-WindowsAreRenewed = windows_closed at_work ≡ record at_work { streams = streams false []; windows = windows_after }
+WindowsAreRenewed =
+    windows_closed at_work
+    ≡ record at_work { streams = streams false []; windows = record windows_after { style = bold; fixed_font = true } }
 
 -- ---- answers
 

@@ -1,5 +1,6 @@
 -- What becomes of the lines of a text that is wrapped.
-use Rattle.std.proofs.Common.{◌≡◌, ◌∙◌, ◌<◌, ◌⊎◌, inl, inr, ℕ, suc, ◌+◌, ◌-◌, ◌/◌, ◌%◌, ◌&&◌, Bool, true, false, cond}
+use Rattle.std.proofs.Common.{◌≡◌, ◌∙◌, ◌<◌, ◌≤◌, ◌⊎◌, inl, inr, ℕ, suc, ◌+◌, ◌-◌, ◌/◌, ◌%◌, ◌&&◌, Bool, true, false}
+use Rattle.std.proofs.Common.{cond}
 use Rattle.std.proofs.Common.{List, [], ◌∷◌, ◌++◌, length, map, subst, take, append_assoc, append-nil, refl, sym, ap}
 use Rattle.std.proofs.Common.{arith, length-append, nat_lt}
 use Rattle.std.proofs.lemmas.Bool.Decides.{nat_tests}
@@ -258,21 +259,22 @@ lines_are_full width line plain other =
 
 -- ---- the columns of characters
 
-leads : (b : ℕ) → (b < 128) ⊎ (191 < b) → begins_character b ≡ true
+leads : (b : ℕ) → (b < 128) ⊎ (193 < b) → begins_character b ≡ true
 leads b (inl h) = let e : nat_lt b 128 ≡ true = grind (arith, nat_tests) in rw e refl
 leads b (inr h) = let e : nat_lt b 128 ≡ false = grind (arith, nat_tests) in
-    let f : nat_lt 191 b ≡ true = grind (arith, nat_tests) in rw (e, f) refl
+    let f : nat_lt 193 b ≡ true = grind (arith, nat_tests) in rw (e, f) refl
 
 goes_on : (n : ℕ) → begins_character (128 + n % 64) ≡ false
 goes_on n = let e : nat_lt (128 + n % 64) 128 ≡ false = grind (arith, nat_tests) in
-    let f : nat_lt 191 (128 + n % 64) ≡ false = grind (arith, nat_tests) in rw (e, f) refl
+    let f : nat_lt 193 (128 + n % 64) ≡ false = grind (arith, nat_tests) in rw (e, f) refl
 
 one_column : (c : ℕ) (x y z : Bool) → nat_lt c 128 ≡ x
     → columns (cond x (c ∷ []) (cond y ((192 + c / 64) ∷ (128 + c % 64) ∷ [])
     (cond z ((224 + c / 4096) ∷ (128 + (c / 64) % 64) ∷ (128 + c % 64) ∷ [])
     ((240 + c / 262144) ∷ (128 + (c / 4096) % 64) ∷ (128 + (c / 64) % 64) ∷ (128 + c % 64) ∷ [])))) ≡ 1
 one_column c true y z e = let low : c < 128 = grind (arith, nat_tests) in rw (leads c (inl low)) refl
-one_column c false true z e = rw (leads (192 + c / 64) (inr (omega arith)), goes_on c) refl
+one_column c false true z e = let high : 128 ≤ c = grind (arith, nat_tests) in
+    rw (leads (192 + c / 64) (inr (omega (arith, high))), goes_on c) refl
 one_column c false false true e = rw (leads (224 + c / 4096) (inr (omega arith)), goes_on (c / 64), goes_on c) refl
 one_column c false false false e =
     rw (leads (240 + c / 262144) (inr (omega arith)), goes_on (c / 4096), goes_on (c / 64), goes_on c) refl

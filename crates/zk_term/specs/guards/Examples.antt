@@ -14,7 +14,7 @@ use Rattle.zk_term.specs.Signals.{screen_text, script_text}
 use Rattle.zk_term.specs.Signals.Signal.{Text, Script, Erase, Beep}
 use Rattle.zk_term.specs.Styles.{roman, style_set}
 use Rattle.zk_term.specs.OpenLines.{kind_after, rest_after_space, rest_of_words}
-use Rattle.zk_term.specs.Wrapping.{wrapped}
+use Rattle.zk_term.specs.Wrapping.{columns, wrapped}
 use Rattle.zk_term.specs.Windows.{Windows, first_windows, split, window_selected, cleared, unsplit, forgotten}
 use Rattle.zk_term.specs.Windows.{line_erased, cursor_set, next_row, printed, row_text, tallest_height}
 use Rattle.zk_term.specs.Windows.{tallest_row_text, row_cells, tallest_row_cells}
@@ -491,3 +491,14 @@ abbrev pub WordsOfManyBytes : Type 0
 WordsOfManyBytes =
     (wrapped 5 (97 ∷ 32 ∷ replicate 1023 128) ≡ 97 ∷ 32 ∷ replicate 1023 128)
     × (wrapped 5 (97 ∷ 32 ∷ replicate 1024 128) ≡ 97 ∷ 10 ∷ replicate 1024 128)
+
+-- 192 and the number of a style take no column, at the front of a word, in it or behind it; a line that begins with
+-- them is no row
+abbrev pub StylesTakeNoColumn : Type 0
+StylesTakeNoColumn =
+    (wrapped 5 (codes "a " ++ 192 ∷ 130 ∷ codes "cde" ++ 192 ∷ 128 ∷ codes " f")
+    ≡ codes "a " ++ 192 ∷ 130 ∷ codes "cde" ++ 192 ∷ 128 ∷ 10 ∷ codes "f")
+    × (wrapped 5 (codes "ab " ++ 192 ∷ 130 ∷ codes "c" ++ 192 ∷ 128 ∷ codes "de f")
+    ≡ codes "ab" ++ 10 ∷ 192 ∷ 130 ∷ codes "c" ++ 192 ∷ 128 ∷ codes "de f")
+    × (wrapped 3 (192 ∷ 129 ∷ codes "| a b") ≡ 192 ∷ 129 ∷ codes "| a" ++ 10 ∷ codes "b")
+    × (columns (192 ∷ 191 ∷ 193 ∷ 194 ∷ 128 ∷ []) ≡ 1)
