@@ -262,7 +262,7 @@ abbrev pub SaysText : {S : Type 0} → (S → Text) → List Row → Text → Op
 SaysText {S} text rows option said = option_map text said ≡ first_of option rows
 
 -- what clap found says the options of a play: the limits, the seed, the view, whether boxes are shown, files, the
--- columns of the screen and the lines of a page, whether styles are shown, and what is read, and calls are told, and the
+-- columns of the screen and the lines of a page, whether styles and what is read are shown, and calls are told, and the
 -- file of addresses that ran
 pub record SaysOptions (rows : List Row) (o : PlayOptions) : Type 0 where
   pub limits : SaysLimits rows o.limits

@@ -8,9 +8,9 @@ use crate::screen::Screen;
 use crate::style::{Bleep, Style};
 use crate::target::{Failed, Target};
 
-/// Collects the UTF-8 of each character, and gives it to its target where there is much of it, before another style that
-/// the target shows, and at `finish`. It passes over erasures and bleeps. Once a write has failed nothing more is written
-/// to either target.
+/// Collects the UTF-8 of each character, and gives it to its target where there is much of it, before another style
+/// that the target shows, and at `finish`. It passes over erasures and bleeps. Once a write has failed nothing more is
+/// written to either target.
 #[derive(Drop)]
 pub struct BufferedScreen<'a, S, T> {
     screen: &'a mut S,

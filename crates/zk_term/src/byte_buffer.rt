@@ -88,8 +88,8 @@ impl ByteBuffer {
         target.flush()
     }
 
-    /// Adds the UTF-8 of a character to the bytes that wait, to be shown in a style. Where there is no room for it these
-    /// go out first, or where a write fails a first part of them. `Failed` says that the last write failed.
+    /// Adds the UTF-8 of a character to the bytes that wait, to be shown in a style. Where there is no room for it
+    /// these go out first, or where a write fails a first part of them. `Failed` says that the last write failed.
     pub fn put_in<T: Target>(&mut self, target: &mut T, c: char, style: Style) -> Result<(), Failed>
         ensures all { OnOk result (PassedOn (T.taken target.old) (T.taken target.new)
             (self.old ++ encode_utf8 c) self.new) }

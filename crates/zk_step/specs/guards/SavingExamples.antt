@@ -140,6 +140,11 @@ memory_of_3 bytes = record { version = 3; static_base = 65; bytes = bytes; file 
 abbrev pub bold : Style
 bold = record { reverse = false; bold = true; italic = false; fixed = false }
 
+-- an upper window with this text, bold text from now on, and the font of a fixed pitch
+abbrev pub windows_at_work : Windows
+windows_at_work =
+    record (printed (codes "AB") (window_selected Upper (split 3 2 first_here))) { style = bold; fixed_font = true }
+
 -- a game state whose story was at work: it has changed its header, called a routine, turned stream 1 off and opened
 -- tables, and prints in the upper window, in bold and with the font of a fixed pitch
 abbrev pub at_work : GameState
@@ -152,10 +157,7 @@ at_work = record {
     most_words = 20;
   };
   streams = streams false (table 20 3 ∷ table 30 1 ∷ []);
-  windows = record (printed (codes "AB") (window_selected Upper (split 3 2 first_here))) {
-    style = bold;
-    fixed_font = true;
-  };
+  windows = windows_at_work;
   generators = states 7 (Some 5);
   at_line_start = false;
   view = view.Upper;
@@ -166,8 +168,8 @@ abbrev pub windows_after : Windows
 windows_after = record first_here { gone = at_work.windows.cells; gone_height = 2 }
 
 -- the bytes are the file's, but for bits 0 and 1 of Flags 2 and what an interpreter sets; the first frame stands alone;
--- there is no upper window and no open table, and text is roman in the normal font; stream 1, random numbers and what the screen shows go on. The first
--- instruction is the one that the file names (sections 6.1.3 and 15, `restart`)
+-- there is no upper window and no open table, and text is roman in the normal font; stream 1, random numbers and what
+-- the screen shows go on. The first instruction is the one that the file names (sections 6.1.3 and 15, `restart`)
 abbrev pub RestartsBegin : Type 0
 RestartsBegin =
     finished at_work (instruction (opcode.Saving Restart) [] None None) [] ending.Restart
