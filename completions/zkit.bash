@@ -46,7 +46,7 @@ _zkit() {
     case ${COMP_WORDS[1]} in
         play)
             case $word in
-                -*) _zkit_words "--frames --words --undo --steps --seed --save --saves --script --upper --boxes --width --page --echo --record --calls --cover --help" ;;
+                -*) _zkit_words "--frames --words --undo --steps --seed --save --saves --script --upper --boxes --width --page --styles --echo --record --calls --cover --help" ;;
                 *) _zkit_files 'z3|z4|z5|z8|zblorb|zlb|blorb|blb' ;;
             esac
             ;;

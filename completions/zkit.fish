@@ -24,6 +24,7 @@ complete -c zkit -n '__fish_seen_subcommand_from play' -l upper -d 'Shows the st
 complete -c zkit -n '__fish_seen_subcommand_from play' -l boxes -d 'Shows the status line and the upper window above the prompt, including quotation boxes'
 complete -c zkit -n '__fish_seen_subcommand_from play' -l width -x -a auto -d 'Wraps lines at this many columns, 20 to 255; auto uses the terminal\'s width'
 complete -c zkit -n '__fish_seen_subcommand_from play' -l page -x -a auto -d 'Pauses after this many lines at a terminal, 2 to 1000; auto fits its height'
+complete -c zkit -n '__fish_seen_subcommand_from play' -l styles -d 'Shows bold, italic and reverse text at a terminal'
 complete -c zkit -n '__fish_seen_subcommand_from play' -l echo -d 'Repeats each line of input, for input from a pipe'
 complete -c zkit -n '__fish_seen_subcommand_from play' -l record -r -F -d 'Records the commands to this file as a walkthrough, emptied first'
 complete -c zkit -n '__fish_seen_subcommand_from play' -l calls -d 'Prints the call stack after a fault or limit'

@@ -32,6 +32,7 @@ case $words[1] in
             '--boxes[Shows the status line and the upper window above the prompt, including quotation boxes]' \
             '--width=[Wraps lines at this many columns, 20 to 255; auto uses the terminal'\''s width]:n|auto:(auto)' \
             '--page=[Pauses after this many lines at a terminal, 2 to 1000; auto fits its height]:n|auto:(auto)' \
+            '--styles[Shows bold, italic and reverse text at a terminal]' \
             '--echo[Repeats each line of input, for input from a pipe]' \
             '--record=[Records the commands to this file as a walkthrough, emptied first]:file:_files' \
             '--calls[Prints the call stack after a fault or limit]' \

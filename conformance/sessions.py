@@ -117,6 +117,31 @@ class Sessions(Asked):
         same(self.run("play --width 80 fox.z3")[1], self.at_terminal("play --width 80 fox.z3", COLUMNS="many"))
         same("", self.at_terminal("play --width auto fox.z3 > shown", COLUMNS="many"))
 
+    def styles_are_shown_at_a_terminal(self) -> None:
+        """Each style is selected before its text, and lines, what is typed and what is left behind are plain."""
+        came = self.at_terminal("play --styles styled.z5", (("it", "x"),))
+        bold, reverse, italic, plain = "\x1b[0;1m", "\x1b[0;1;7m", "\x1b[0;4m", "\x1b[0m"
+        same(f"a{bold}bold{plain}\n{bold}er{reverse}x{plain} c{italic}it{plain}x\nd", came)
+        same("abold\nerx citx\nd", self.at_terminal("play styled.z5", (("it", "x"),)))
+
+    def styles_take_no_columns(self) -> None:
+        """Lines are wrapped where they are without styles."""
+        came = self.at_terminal("play --styles --width 20 styled_words.z5")
+        same("\x1b[0;1mquick brown\x1b[0m the lazy\ndog", came)
+        same("quick brown the lazy\ndog", self.at_terminal("play --width 20 styled_words.z5"))
+
+    def rows_are_shown_in_styles(self) -> None:
+        """A box has the styles of its cells, and its bar is plain."""
+        came = self.at_terminal("play --styles --boxes --width 20 styled_row.z5", (("b", "x"),))
+        same("| is \x1b[0;7mhi\x1b[0m\n\x1b[0;1mb\x1b[0mx\n", came)
+        same("| is hi\nbx\n", self.at_terminal("play --boxes --width 20 styled_row.z5", (("b", "x"),)))
+
+    def styles_are_for_terminals_alone(self) -> None:
+        """No file or pipe gets them."""
+        self.check(shown("abold\nerx citd"), "play --styles styled.z5", b"x\n")
+        same("x\n", self.at_terminal("play --styles styled.z5 > shown", (("", "x"),)))
+        same(b"abold\nerx citd", self.read("shown"))
+
     def boxes_leave_saves_alone(self) -> None:
         """A save shows the open line, which a row ends; a transcript has no rows."""
         self.check(shown("a\n| hi\nbc"), "play --boxes --save in_line in_line.z5", b"x\n")

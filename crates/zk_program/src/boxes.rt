@@ -21,6 +21,7 @@ use zk_step::output::view::show_status_line;
 use zk_step::state::ending::Event;
 use zk_step::state::game_state::View;
 use zk_system::held_prompt::HeldPrompt;
+use zk_system::style_marks::StyleMarks;
 use zk_term::buffered_screen::BufferedScreen;
 use zk_term::io_device::IoDevice;
 use zk_term::lines::{Input, Lines};
@@ -37,11 +38,24 @@ use zk_vm::stop::Stop;
 
 /// How rows are shown.
 #[derive(Clone, Copy, Drop)]
-struct Look {
+pub struct Look {
     /// The columns of the screen's lines, where they are wrapped.
     width: Option<u8>,
+    /// Whether styles are shown.
+    styles: bool,
     /// The height of the window in which a character was read last, or 0 where a line was.
     menu: u8,
+}
+
+impl Look {
+    /// That of a play at its start.
+    pub fn new(width: Option<u8>, styles: bool) -> Look {
+        Look {
+            width,
+            styles,
+            menu: 0,
+        }
+    }
 }
 
 /// The height of a window that a read makes a menu: one of a character does.
@@ -88,7 +102,7 @@ fn show_row<S: Screen>(screen: &mut S, cells: &[Cell]) {
     screen.text('|', Style::roman());
     screen.text(' ', Style::roman());
     for cell in cells {
-        screen.text(cell.character, Style::roman());
+        screen.text(cell.character, cell.style);
     }
     screen.text('\n', Style::roman());
 }
@@ -111,7 +125,7 @@ fn show_rows<S: Screen>(screen: &mut S, windows: &Windows, look: Look) {
 
 /// The status line and the rows, as they stand above the prompt.
 fn text_above(alloc: Global, machine: &Machine, look: Look) -> Result<Vec<u8>, AllocError> {
-    let mut text = IoDevice::new(Vec::new(alloc));
+    let mut text = StyleMarks::new(IoDevice::new(Vec::new(alloc)), look.styles);
     let mut nothing = Nothing;
     let mut screen = BufferedScreen::new(&mut text, &mut nothing);
     show_status(&mut screen, machine.memory());
@@ -120,7 +134,7 @@ fn text_above(alloc: Global, machine: &Machine, look: Look) -> Result<Vec<u8>, A
     if screen.has_failed() {
         return Err(AllocError);
     }
-    Ok(text.into_inner())
+    Ok(text.into_inner().into_inner())
 }
 
 /// Ends a machine with a stop.
@@ -194,21 +208,22 @@ fn answer_read<I: Source, S: Target>(
 /// Runs a machine up to its next event, shows its text, and answers the event.
 fn go_on<I: Source, S: Target, T: Target, K: SaveSlot, P: Places>(
     alloc: Global,
-    devices: &mut Devices<I, HeldPrompt<S>, T, K>,
+    devices: &mut Devices<I, StyleMarks<HeldPrompt<S>>, T, K>,
     lines: &mut Lines,
     machine: &mut Machine,
     places: &mut P,
     look: &mut Look,
 ) -> Result<(), Stop>
     requires free { machine.old.waiting ≡ None }
-    requires screen_works { S.failed devices.old.screen.screen ≡ false }
+    requires screen_works { S.failed devices.old.screen.inner.screen ≡ false }
     requires script_works { T.failed devices.old.script ≡ false }
     ensures free { OnOk result (machine.new.waiting ≡ None) }
-    ensures screen_works { OnOk result (S.failed devices.new.screen.screen ≡ false) }
+    ensures screen_works { OnOk result (S.failed devices.new.screen.inner.screen ≡ false) }
     ensures script_works { OnOk result (T.failed devices.new.script ≡ false) }
 {
-    let screen = &mut devices.screen;
-    match run_on(screen, &mut devices.script, machine, places) {
+    let answer = run_on(&mut devices.screen, &mut devices.script, machine, places);
+    let screen = &mut devices.screen.inner;
+    match answer {
         Ok(event) if is_read(event) => {
             show_prompt(alloc, screen, machine, *look)?;
             look.menu = menu_of(event, machine.windows().height());
@@ -231,17 +246,17 @@ fn go_on<I: Source, S: Target, T: Target, K: SaveSlot, P: Places>(
 /// them by itself.
 pub fn play_with_boxes<I: Source, S: Target, T: Target, K: SaveSlot, P: Places>(
     alloc: Global,
-    devices: &mut Devices<I, HeldPrompt<S>, T, K>,
+    devices: &mut Devices<I, StyleMarks<HeldPrompt<S>>, T, K>,
     machine: &mut Machine,
     places: &mut P,
-    width: Option<u8>,
+    look: Look,
 ) -> Stop
     requires free { machine.old.waiting ≡ None }
-    requires screen_works { S.failed devices.old.screen.screen ≡ false }
+    requires screen_works { S.failed devices.old.screen.inner.screen ≡ false }
     requires script_works { T.failed devices.old.script ≡ false }
 {
     let mut lines = Lines::new();
-    let mut look = Look { width, menu: 0 };
+    let mut look = look;
     // a machine's limits end it long before
     for _k in 0..u64::MAX {
         match go_on(alloc, devices, &mut lines, machine, places, &mut look) {
@@ -267,7 +282,7 @@ pub fn play_with_boxes_and_report<
     request: PlayRequest<R>,
     devices: Devices<I, S, T, K>,
     places: &mut P,
-    width: Option<u8>,
+    look: Look,
     errors: &mut E,
 ) -> u8
     requires in_range { AreInRange request.settings.limits }
@@ -284,7 +299,7 @@ pub fn play_with_boxes_and_report<
     } = devices;
     let mut devices = Devices {
         input,
-        screen: HeldPrompt::new(alloc, screen),
+        screen: StyleMarks::new(HeldPrompt::new(alloc, screen), look.styles),
         script,
         slot,
     };
@@ -310,7 +325,7 @@ pub fn play_with_boxes_and_report<
     // a write of no bytes makes the script's file before the run
     let stop = match devices.script.write(&[]) {
         Err(Failed) => Stop::Write,
-        Ok(_) => play_with_boxes(alloc, &mut devices, &mut machine, places, width),
+        Ok(_) => play_with_boxes(alloc, &mut devices, &mut machine, places, look),
     };
     note_stop(alloc, about, &machine, &stop);
     report(alloc, &Exit::Stopped(stop), &limits, about, errors)

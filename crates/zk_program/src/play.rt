@@ -5,7 +5,7 @@ ghost use Rattle.zk_vm.specs.Bounds.{AreInRange};
 ghost use Rattle.zk_program.specs.Plans.{page_lines};
 
 use crate::about::About;
-use crate::boxes::play_with_boxes_and_report;
+use crate::boxes::{Look, play_with_boxes_and_report};
 use crate::cover::CoverFile;
 use crate::exit::Exit;
 use crate::listing::open_listed;
@@ -22,7 +22,11 @@ use zk_system::record::{Record, RecordFile, write_record_heading};
 use zk_system::save_file::{SaveFile, SavePlace, tell_no_folder};
 use zk_system::script::ScriptFile;
 use zk_system::shown::Shown;
-use zk_system::terminal::{assumes_columns, columns, is_typed_at, lines, seed_of_clock};
+use zk_system::style_codes::StyleCodes;
+use zk_system::style_marks::StyleMarks;
+use zk_system::terminal::{
+    assumes_columns, columns, is_shown_at, is_typed_at, lines, seed_of_clock,
+};
 use zk_system::typed_bytes::TypedBytes;
 use zk_system::watched::Watched;
 use zk_term::echo::Echo;
@@ -231,6 +235,8 @@ pub struct OpenPlay<'a> {
     settings: Settings,
     /// The columns of the screen's lines, where they are wrapped.
     width: Option<u8>,
+    /// Whether styles are shown.
+    styles: bool,
     /// The file that gets the lines that are read.
     record: Option<File>,
 }
@@ -274,6 +280,7 @@ impl<'a> OpenPlay<'a> {
             options,
             settings,
             width,
+            styles: options.styles && is_shown_at(rt),
             record,
         };
         Ok((opened, covering))
@@ -294,14 +301,17 @@ impl<'a> OpenPlay<'a> {
     }
 
     /// The screen, as options say.
-    fn screen<'r>(&'r self, rt: &'r HostRuntime) -> Wrapped<Paged<'r, StandardOutput<'r>>>
-        ensures { result.inner.screen.failed ≡ false }
+    fn screen<'r>(
+        &'r self,
+        rt: &'r HostRuntime,
+    ) -> Wrapped<Paged<'r, StyleCodes<StandardOutput<'r>>>>
+        ensures { result.inner.screen.inner.failed ≡ false }
     {
+        let output = StyleCodes::new(screen_of(rt, &self.about), self.styles);
         let typed = typed(rt, &self.about, None, false, false);
         let asker = Asker::new(rt, typed, &self.about.input);
         let page = page_by(rt, self.options.page);
-        let paged = Paged::new(screen_of(rt, &self.about), asker, page);
-        Wrapped::new(paged, self.width)
+        Wrapped::new(Paged::new(output, asker, page), self.width)
     }
 }
 
@@ -319,7 +329,7 @@ fn play_noting<'r, R: Read + Drop, P: Places>(
         return out_of_memory(rt);
     };
     let names = Asker::new(rt, opened.input(rt), &opened.about.input);
-    let mut devices = Devices {
+    let devices = Devices {
         input: opened.input(rt),
         screen: opened.screen(rt),
         script: ScriptFile::new(rt, options.script, &opened.about.script),
@@ -332,8 +342,21 @@ fn play_noting<'r, R: Read + Drop, P: Places>(
     };
     let errors = &mut IoDevice::new(rt.stderr());
     if options.boxes {
-        play_with_boxes_and_report(rt.alloc(), request, devices, places, opened.width, errors)
+        let look = Look::new(opened.width, opened.styles);
+        play_with_boxes_and_report(rt.alloc(), request, devices, places, look, errors)
     } else {
+        let Devices {
+            input,
+            screen,
+            script,
+            slot,
+        } = devices;
+        let mut devices = Devices {
+            input,
+            screen: StyleMarks::new(screen, opened.styles),
+            script,
+            slot,
+        };
         play_and_report(rt.alloc(), request, &mut devices, places, errors)
     }
 }

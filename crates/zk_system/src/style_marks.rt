@@ -43,7 +43,8 @@ pub fn length_before(bytes: &[u8], end: u8) -> usize
 /// so is what comes after a flush, until there is more text.
 #[derive(Drop)]
 pub struct StyleMarks<T> {
-    inner: T,
+    /// The target behind.
+    pub inner: T,
     is_on: bool,
     /// The style of the text that comes next.
     wanted: Style,

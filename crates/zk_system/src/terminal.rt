@@ -43,6 +43,11 @@ pub fn is_typed_at(rt: &HostRuntime) -> bool {
     is_terminal(rt, INPUT)
 }
 
+/// Whether standard output is a terminal.
+pub fn is_shown_at(rt: &HostRuntime) -> bool {
+    is_terminal(rt, OUTPUT)
+}
+
 /// Whether standard error is a terminal.
 pub fn is_told_at(rt: &HostRuntime) -> bool {
     is_terminal(rt, ERRORS)
