@@ -9,7 +9,7 @@ use zk_term::style::Style;
 use zk_term::target::{Failed, Target, write_all};
 
 /// The control sequence by which a terminal shows a style.
-fn code_of(style: Style) -> &'static [u8]
+pub fn code_of(style: Style) -> &'static [u8]
     ensures { result.now ≡ style_code style }
 {
     match (style.bold, style.italic, style.reverse) {
@@ -25,7 +25,7 @@ fn code_of(style: Style) -> &'static [u8]
 }
 
 /// The style whose number a mark has.
-fn style_in(number: u8) -> Style
+pub fn style_in(number: u8) -> Style
     ensures { result ≡ style_set number roman }
 {
     Style::roman().set(u16::from(number))

@@ -21,7 +21,7 @@ fn number_of(style: Style) -> u8
 }
 
 /// The mark of a style.
-fn mark_of(style: Style) -> [u8; 2]
+pub fn mark_of(style: Style) -> [u8; 2]
     ensures { result ≡ style_mark style }
 {
     [MARK, 128 + number_of(style)]
