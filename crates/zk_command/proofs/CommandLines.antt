@@ -24,7 +24,7 @@ use Rattle.zk_inspect.specs.declared.section.Section.TheVariants.{Header}
 use Rattle.zk_command.specs.declared.choice.Choice.{Choice}
 use Rattle.zk_command.specs.declared.options.CommandOption.{CommandOption}
 use Rattle.zk_command.specs.declared.options.CommandTable.{CommandTable}
-use Rattle.zk_command.specs.declared.choice.Choice.TheVariants.{Play, Show, Test, Unpack}
+use Rattle.zk_command.specs.declared.choice.Choice.TheVariants.{Play, Show, Test, Unpack, Page}
 use Rattle.zk_command.specs.declared.settings.Asked.{Asked}
 use Rattle.zk_command.specs.declared.settings.Asked.TheVariants.{Sections, Code, Findings}
 
@@ -201,7 +201,7 @@ other_name : (name known : Text) → bytes_eq name known ≡ false → name ≡ 
 other_name name known test e =
     let d = bytes_eq-Decides name known in let both : false ≡ true = sym test ∙ d.1 e in absurd cc
 
--- `play`, `test` and `unpack` list nothing
+-- `play`, `test`, `unpack` and `page` list nothing
 no_asked : (name : Text) (rows : List Row) (asked : Asked) → bytes_eq name (codes "info") ≡ false
     → bytes_eq name (codes "disasm") ≡ false → bytes_eq name (codes "check") ≡ false → SaysAsked name rows asked → ⊥
 no_asked name rows (Sections sections) i d k h = other_name name (codes "info") i h.0
@@ -216,6 +216,7 @@ no_play_said rows none (Show stories roots options asked) h =
     no_asked (codes "play") rows asked refl refl refl h.2
 no_play_said rows none (Test paths story bless) h = other_name (codes "play") (codes "test") refl h.0
 no_play_said rows none (Unpack file out) h = other_name (codes "play") (codes "unpack") refl h.0
+no_play_said rows none (Page story out options) h = other_name (codes "play") (codes "page") refl h.0
 
 -- without the paths of two files `unpack` asks for nothing
 pub no_unpack_said : (rows : List Row) → ((file out : List ℕ) → first_of (codes "FILE") rows ≡ Some file
@@ -225,6 +226,17 @@ no_unpack_said rows none (Show stories roots options asked) h =
     no_asked (codes "unpack") rows asked refl refl refl h.2
 no_unpack_said rows none (Test paths story bless) h = other_name (codes "unpack") (codes "test") refl h.0
 no_unpack_said rows none (Unpack file out) h = none file.now out.now h.1 h.2
+no_unpack_said rows none (Page story out options) h = other_name (codes "unpack") (codes "page") refl h.0
+
+-- without the paths of a story and of a page `page` asks for nothing
+pub no_page_said : (rows : List Row) → ((story out : List ℕ) → SaysStory rows story
+    → first_of (codes "OUT") rows ≡ Some out → ⊥) → (c : Choice) → Says (codes "page") rows c → ⊥
+no_page_said rows none (Play story options) h = other_name (codes "page") (codes "play") refl h.0
+no_page_said rows none (Show stories roots options asked) h =
+    no_asked (codes "page") rows asked refl refl refl h.2
+no_page_said rows none (Test paths story bless) h = other_name (codes "page") (codes "test") refl h.0
+no_page_said rows none (Unpack file out) h = other_name (codes "page") (codes "unpack") refl h.0
+no_page_said rows none (Page story out options) h = none story.now out.now h.1 h.2
 
 -- there are no paths
 no_paths : (rows : List Row) (paths told : List Text) → paths ≡ unwrap_or (all_of (codes "STORY") rows) []
@@ -242,6 +254,7 @@ no_test_said rows paths is none (Show stories roots options asked) h =
     no_asked (codes "test") rows asked refl refl refl h.2
 no_test_said rows paths is none (Test told story bless) h = no_paths rows paths _ is none h.1.0 h.1.1
 no_test_said rows paths is none (Unpack file out) h = other_name (codes "test") (codes "unpack") refl h.0
+no_test_said rows paths is none (Page story out options) h = other_name (codes "test") (codes "page") refl h.0
 
 -- without stories, or by a name of no listing, nothing is listed
 pub no_stories : (name : Text) (rows : List Row) (paths : List Text) → IsOtherName name
@@ -251,6 +264,7 @@ no_stories name rows paths other is none (Show stories roots options asked) h =
     no_paths rows paths _ is none h.0.0 h.0.1
 no_stories name rows paths other is none (Test told story bless) h = other_name name (codes "test") other.test h.0
 no_stories name rows paths other is none (Unpack file out) h = other_name name (codes "unpack") other.unpack h.0
+no_stories name rows paths other is none (Page story out options) h = other_name name (codes "page") other.page h.0
 
 pub no_command : (name : Text) (rows : List Row) → IsOtherName name
     → ((a : Asked) → SaysAsked name rows a → ⊥) → (c : Choice) → Says name rows c → ⊥
@@ -258,6 +272,7 @@ no_command name rows other none (Play story options) h = other_name name (codes 
 no_command name rows other none (Show stories roots options asked) h = none asked h.2
 no_command name rows other none (Test told story bless) h = other_name name (codes "test") other.test h.0
 no_command name rows other none (Unpack file out) h = other_name name (codes "unpack") other.unpack h.0
+no_command name rows other none (Page story out options) h = other_name name (codes "page") other.page h.0
 
 pub no_asked_said : (name : Text) (rows : List Row) → bytes_eq name (codes "info") ≡ false
     → bytes_eq name (codes "disasm") ≡ false → bytes_eq name (codes "check") ≡ false → (a : Asked)

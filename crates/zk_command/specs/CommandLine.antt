@@ -19,6 +19,7 @@ use Rattle.zk_step.specs.declared.state.game_state.View.TheVariants.{Plain, Uppe
 use Rattle.zk_command.specs.declared.settings.Amount.{Amount}
 use Rattle.zk_command.specs.declared.settings.Amount.TheVariants as amount
 use Rattle.zk_command.specs.declared.settings.PlayOptions.{PlayOptions}
+use Rattle.zk_command.specs.declared.settings.PageOptions.{PageOptions}
 use Rattle.zk_command.specs.declared.settings.Form.{Form}
 use Rattle.zk_command.specs.declared.settings.Form.TheVariants.{Lines, Rows, Json, Graph, Picture}
 use Rattle.zk_command.specs.declared.settings.Roots.{Roots}
@@ -26,11 +27,11 @@ use Rattle.zk_command.specs.declared.settings.ShowOptions.{ShowOptions}
 use Rattle.zk_command.specs.declared.choice.Choice.{Choice}
 use Rattle.zk_command.specs.declared.choice.Named.{Named as NamedByCommand}
 use Rattle.zk_command.specs.declared.options.CommandOption.{CommandOption}
-use Rattle.zk_command.specs.declared.options.CommandOption.TheVariants.{Number, File, Folder, Address, Flag, Path}
+use Rattle.zk_command.specs.declared.options.CommandOption.TheVariants.{Number, File, Folder, Line, Address, Flag, Path}
 use Rattle.zk_command.specs.declared.options.CommandOption.TheVariants.{Story, Stories, Walkthroughs}
 use Rattle.zk_command.specs.declared.options.CommandTable.{CommandTable}
 use Rattle.zk_command.specs.declared.options.NumberOption.{NumberOption}
-use Rattle.zk_command.specs.declared.choice.Choice.TheVariants.{Play, Show, Test, Unpack}
+use Rattle.zk_command.specs.declared.choice.Choice.TheVariants.{Play, Show, Test, Unpack, Page}
 use Rattle.zk_command.specs.declared.settings.Asked.{Asked}
 use Rattle.zk_command.specs.declared.settings.Asked.TheVariants.{Sections, Code, Findings}
 use Rattle.zk_inspect.specs.Sections.{all_sections, section_name}
@@ -86,6 +87,7 @@ abbrev pub option_rule : CommandOption → Rule
 option_rule (Number o) = number_rule o
 option_rule (File name help) = value_option name.now
 option_rule (Folder name help) = value_option name.now
+option_rule (Line name help) = value_option name.now
 option_rule (Address name help) = repeated_option name.now
 option_rule (Flag name help) = flag name.now
 option_rule (Path name help) = file_argument name.now
@@ -192,6 +194,18 @@ abbrev pub unpack_command : App
 unpack_command =
     with_rule (with_rule (new_app (codes "unpack")) (file_argument (codes "FILE"))) (file_argument (codes "OUT"))
 
+-- `page [--title TEXT] [--author TEXT] [--blurb FILE] [--cover FILE] [--walkthrough FILE] STORY OUT`
+abbrev pub page_command : App
+page_command = with_rules (new_app (codes "page")) (
+    value_option (codes "title")
+    ∷ value_option (codes "author")
+    ∷ value_option (codes "blurb")
+    ∷ value_option (codes "cover")
+    ∷ value_option (codes "walkthrough")
+    ∷ story_argument
+    ∷ file_argument (codes "OUT")
+    ∷ [])
+
 -- zkit's commands that play and list stories
 abbrev pub first_commands : App
 first_commands =
@@ -204,7 +218,9 @@ first_commands =
 
 -- zkit's command line: these commands; help and the version are clap's
 abbrev pub command_line : App
-command_line = with_subcommand (with_subcommand first_commands test_command.top) unpack_command.top
+command_line =
+    with_subcommand (with_subcommand (with_subcommand first_commands test_command.top) unpack_command.top)
+    page_command.top
 
 -- the number that an argument's digits say, with or without a plus before them
 abbrev pub number_in : Text → ℕ
@@ -341,6 +357,14 @@ show_said rows = record {
   summary = flag_said (first_of (codes "summary") rows);
 }
 
+-- what clap found says the options of a page
+pub record SaysPage (rows : List Row) (o : PageOptions) : Type 0 where
+  pub title : SaysText (λ s. s.now) rows (codes "title") o.title
+  pub author : SaysText (λ s. s.now) rows (codes "author") o.author
+  pub blurb : SaysText (λ s. s.now) rows (codes "blurb") o.blurb
+  pub cover : SaysText (λ s. s.now) rows (codes "cover") o.cover
+  pub walkthrough : SaysText (λ s. s.now) rows (codes "walkthrough") o.walkthrough
+
 -- what clap found for a command says a choice
 abbrev pub Says : Text → List Row → Choice → Type 0
 Says name rows (Play story options) = (name ≡ codes "play") × SaysStory rows story.now × SaysOptions rows options
@@ -353,12 +377,15 @@ Says name rows (Test paths story bless) =
     × (bless ≡ flag_said (first_of (codes "bless") rows))
 Says name rows (Unpack file out) = (name ≡ codes "unpack") × (first_of (codes "FILE") rows ≡ Some file.now)
     × (first_of (codes "OUT") rows ≡ Some out.now)
+Says name rows (Page story out options) = (name ≡ codes "page") × SaysStory rows story.now
+    × (first_of (codes "OUT") rows ≡ Some out.now) × SaysPage rows options
 
 -- a command's name is none of those that list nothing
 pub record IsOtherName (name : Text) : Type 0 where
   pub play : bytes_eq name (codes "play") ≡ false
   pub test : bytes_eq name (codes "test") ≡ false
   pub unpack : bytes_eq name (codes "unpack") ≡ false
+  pub page : bytes_eq name (codes "page") ≡ false
 
 -- the arguments ask for a choice: clap finds a command in them that says it
 pub record Asks (arguments : List Text) (c : Choice) : Type 0 where

@@ -14,7 +14,7 @@ ghost use Rattle.zk_command.specs.declared.settings.Amount.{Amount};
 ghost use Rattle.zk_command.specs.declared.settings.PlayOptions.{PlayOptions};
 ghost use Rattle.zk_command.specs.CommandLine.{AreTexts, Asks, HasLimits, IsAmount, IsNamed, IsNumberIn, IsOtherName};
 ghost use Rattle.zk_command.specs.CommandLine.{IsRefusedWith, MaySayAmount, MetSays, Says, SaysAsked, SaysLimits};
-ghost use Rattle.zk_command.specs.CommandLine.{SaysNumber, SaysOptions, SaysRoots, SaysSeed, SaysStory, command_line};
+ghost use Rattle.zk_command.specs.CommandLine.{SaysNumber, SaysOptions, SaysPage, SaysRoots, SaysSeed, SaysStory, command_line};
 ghost use Rattle.zk_command.specs.CommandLine.{file_argument, flag_said, form_said, named_option, number_in};
 ghost use Rattle.zk_command.specs.CommandLine.{number_rule, option_rule, section_rule, sections_named, sections_said};
 ghost use Rattle.zk_command.specs.CommandLine.{show_said, story_argument, table_command, usage_status, view_said};
@@ -24,7 +24,7 @@ use crate::options::{
     COMMANDS, CommandOption, CommandTable, FRAMES, NumberOption, PAGE, PLAY, SEED, STEPS, UNDO,
     WIDTH, WORDS,
 };
-use crate::settings::{Amount, Asked, Form, PlayOptions, Roots, ShowOptions};
+use crate::settings::{Amount, Asked, Form, PageOptions, PlayOptions, Roots, ShowOptions};
 use clap::error::ErrorKind;
 use clap::{Arg, ArgAction, ArgMatches, Command, Error};
 use std::alloc::{AllocError, Global};
@@ -59,6 +59,12 @@ pub enum Choice<'a> {
     Unpack {
         file: &'a str,
         out: &'a str,
+    },
+    /// To write a page that plays a story to a file.
+    Page {
+        story: &'a str,
+        out: &'a str,
+        options: PageOptions<'a>,
     },
 }
 
@@ -111,6 +117,7 @@ fn option_of<'a>(alloc: Global, option: CommandOption) -> Arg<'a>
         CommandOption::Folder { name, help } => {
             option_named(alloc, name, help).value_name("FOLDER")
         }
+        CommandOption::Line { name, help } => option_named(alloc, name, help).value_name("TEXT"),
         CommandOption::Address { name, help } => option_named(alloc, name, help)
             .action(ArgAction::Append)
             .value_name("ADDRESS"),
@@ -507,6 +514,37 @@ fn choose_unpack<'a>(command: &mut Command<'_>, found: &ArgMatches<'a>) -> Resul
     Ok(Choice::Unpack { file, out })
 }
 
+/// What the options of `page` say.
+fn page_options_of<'a>(found: &ArgMatches<'a>) -> PageOptions<'a>
+    ensures { SaysPage (rows_of (found_of found.now)) result }
+{
+    PageOptions {
+        title: text_of(found, "title"),
+        author: text_of(found, "author"),
+        blurb: text_of(found, "blurb"),
+        cover: text_of(found, "cover"),
+        walkthrough: text_of(found, "walkthrough"),
+    }
+}
+
+/// What `page` asks for.
+fn choose_page<'a>(command: &mut Command<'_>, found: &ArgMatches<'a>) -> Result<Choice<'a>, Error>
+    ensures says { IfOk result (λ c. Says (codes "page") (rows_of (found_of found.now)) c) }
+    ensures in_range { IfOk result (λ c. HasLimits c) }
+    ensures mistake { IfErr result (λ e. 1 ≤ usage_status (kind_of e)) }
+    ensures says_none { OnErr result
+        ((c : Choice) → Says (codes "page") (rows_of (found_of found.now)) c → ⊥) }
+{
+    let story = story_of(command, found)?;
+    let out = path_of(command, found, "OUT")?;
+    let options = page_options_of(found);
+    Ok(Choice::Page {
+        story,
+        out,
+        options,
+    })
+}
+
 /// What a command lists, by its name, what clap found for it, and the sections that are asked for.
 fn asked_of(name: &str, found: &ArgMatches<'_>, sections: Vec<Section>) -> Option<Asked>
     requires { sections.items ≡ sections_said (rows_of (found_of found.now)) }
@@ -595,7 +633,7 @@ fn choose_listing<'a>(
             Err(usage_error(command, ErrorKind::MissingRequiredArgument, text))
         }
         None => {
-            let text = "the commands are 'play', 'info', 'disasm', 'check', 'test' and 'unpack'";
+            let text = "the commands are 'play', 'info', 'disasm', 'check', 'test', 'unpack' and 'page'";
             Err(usage_error(command, ErrorKind::InvalidSubcommand, text))
         }
     }
@@ -646,6 +684,8 @@ fn choose_by<'a>(
         choose_play(alloc, command, found)
     } else if name == "unpack" {
         choose_unpack(command, found)
+    } else if name == "page" {
+        choose_page(command, found)
     } else if name == "test" {
         choose_test(command, found, named)
     } else {

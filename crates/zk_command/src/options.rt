@@ -30,6 +30,11 @@ pub(crate) enum CommandOption {
         name: &'static str,
         help: &'static str,
     },
+    /// With a text, or not at all.
+    Line {
+        name: &'static str,
+        help: &'static str,
+    },
     /// With an address, as often as it is given.
     Address {
         name: &'static str,
@@ -330,5 +335,43 @@ const UNPACK: CommandTable = CommandTable {
     options: &UNPACK_OPTIONS,
 };
 
+/// The options of `page`, and its paths.
+const PAGE_OPTIONS: [CommandOption; 7] = [
+    CommandOption::Line {
+        name: "title",
+        help: "The story's title",
+    },
+    CommandOption::Line {
+        name: "author",
+        help: "Who wrote the story",
+    },
+    CommandOption::File {
+        name: "blurb",
+        help: "Shows the text of this file before the story begins",
+    },
+    CommandOption::File {
+        name: "cover",
+        help: "Shows this picture, PNG or JPEG, before the story begins",
+    },
+    CommandOption::File {
+        name: "walkthrough",
+        help: "Offers to play the commands of this file",
+    },
+    CommandOption::Story,
+    CommandOption::Path {
+        name: "OUT",
+        help: "The page to create",
+    },
+];
+
+const STORY_PAGE: CommandTable = CommandTable {
+    name: "page",
+    about: "Makes a page for browsers that plays a story",
+    example: "Example: zkit page --title 'The Cave' cave.z5 cave.html",
+    sections: &[],
+    options: &PAGE_OPTIONS,
+};
+
 /// The commands.
-pub(crate) const COMMANDS: [CommandTable; 6] = [PLAY, INFO, DISASM, CHECK, TEST, UNPACK];
+pub(crate) const COMMANDS: [CommandTable; 7] =
+    [PLAY, INFO, DISASM, CHECK, TEST, UNPACK, STORY_PAGE];

@@ -103,3 +103,16 @@ pub struct PlayOptions<'a> {
     /// The file that gets the addresses of the instructions that were carried out.
     pub cover: Option<&'a str>,
 }
+
+/// What the options of `page` say.
+#[derive(Clone, Copy, Drop)]
+pub struct PageOptions<'a> {
+    pub title: Option<&'a str>,
+    pub author: Option<&'a str>,
+    /// The file of a text that is shown before the story begins.
+    pub blurb: Option<&'a str>,
+    /// The file of a picture that is shown before the story begins.
+    pub cover: Option<&'a str>,
+    /// The file of commands that the page offers to play.
+    pub walkthrough: Option<&'a str>,
+}

@@ -6,3 +6,4 @@ pub mod Listing
 pub mod Verdict
 pub mod Plans
 pub mod Covers
+pub mod StoryPages

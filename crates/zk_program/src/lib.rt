@@ -1,4 +1,5 @@
-// The commands: stories are opened and played, listed and checked, tested and unpacked, and it is told how that ended.
+// The commands: stories are opened and played, listed and checked, tested and unpacked, and put into pages, and it is
+// told how that ended.
 #![tactic(auto)]
 
 pub mod about;
@@ -20,6 +21,7 @@ mod readable;
 pub mod report;
 mod roots;
 mod session;
+pub mod story_page;
 pub mod suite;
 pub mod told;
 pub mod unpack;

@@ -11,7 +11,7 @@ use zk_system::shown::Shown;
 use zk_vm::stop::Stop;
 
 /// Writes a file that is not there yet. Where it can't be written whole nothing is left of it.
-fn write_new(rt: &HostRuntime, path: &str, bytes: &[u8]) -> io::Result<()> {
+pub(crate) fn write_new(rt: &HostRuntime, path: &str, bytes: &[u8]) -> io::Result<()> {
     let mut file = OpenOptions::new()
         .write(true)
         .create_new(true)

@@ -18,6 +18,7 @@ use zk_command::choice::{Choice, choose, story_named, usage_status_of};
 use zk_command::settings::PlayOptions;
 use zk_program::list::list_all;
 use zk_program::play::{OpenPlay, play};
+use zk_program::story_page::make_story_page;
 use zk_program::suite::{Testing, test};
 use zk_program::told::{out_of_memory, tell_unread, tell_unwritten};
 use zk_program::unpack::unpack;
@@ -140,6 +141,13 @@ fn answer(rt: &HostRuntime, arguments: &[String], paths: Option<&[String]>) -> u
             },
         ) => test(rt, paths.as_slice(), Testing { story, bless }),
         Ok(Choice::Unpack { file, out }) => unpack(rt, file, out),
+        Ok(
+            Choice::Page {
+                story,
+                out,
+                options,
+            },
+        ) => make_story_page(rt, story, out, &options),
         Err(error) => {
             let status = tell_usage(rt, &error);
             tell_command(rt, arguments, &error);
