@@ -33,13 +33,13 @@ _zkit() {
         before=${COMP_WORDS[COMP_CWORD - 2]}
     fi
     if [ "$COMP_CWORD" = 1 ]; then
-        _zkit_words "play info disasm check test unpack help --help --version"
+        _zkit_words "play info disasm check test page unpack help --help --version"
         return
     fi
     case $before in
-        --frames | --words | --undo | --steps | --at | --routine) return ;;
+        --frames | --words | --undo | --steps | --at | --routine | --title | --author) return ;;
         --seed) _zkit_words any; return ;;
-        --save | --script | --record | --cover | --files-from | --story) _zkit_all -f; return ;;
+        --save | --script | --record | --cover | --files-from | --story | --blurb | --walkthrough) _zkit_all -f; return ;;
         --saves) _zkit_all -d; return ;;
         --width | --page) _zkit_words auto; return ;;
     esac
@@ -74,13 +74,19 @@ _zkit() {
                 *) _zkit_files 'walkthrough' ;;
             esac
             ;;
+        page)
+            case $word in
+                -*) _zkit_words "--title --author --blurb --cover --walkthrough --help" ;;
+                *) _zkit_files 'z3|z4|z5|z8|zblorb|zlb|blorb|blb|html' ;;
+            esac
+            ;;
         unpack)
             case $word in
                 -*) _zkit_words "--help" ;;
                 *) _zkit_files 'zblorb|zlb|blorb|blb' ;;
             esac
             ;;
-        help) _zkit_words "play info disasm check test unpack" ;;
+        help) _zkit_words "play info disasm check test page unpack" ;;
     esac
 }
 

@@ -82,6 +82,15 @@ complete -c zkit -n '__fish_seen_subcommand_from test' -l bless -d 'Writes the e
 complete -c zkit -n '__fish_seen_subcommand_from test' -l help -d 'Shows help'
 complete -c zkit -n '__fish_seen_subcommand_from test' -a '(__zkit_files "walkthrough")'
 
+complete -c zkit -n __fish_use_subcommand -a page -d 'Makes a page for browsers that plays a story'
+complete -c zkit -n '__fish_seen_subcommand_from page' -l title -x -d 'The story\'s title'
+complete -c zkit -n '__fish_seen_subcommand_from page' -l author -x -d 'Who wrote the story'
+complete -c zkit -n '__fish_seen_subcommand_from page' -l blurb -r -F -d 'Shows the text of this file before the story begins'
+complete -c zkit -n '__fish_seen_subcommand_from page' -l cover -r -F -d 'Shows this picture, PNG or JPEG, before the story begins'
+complete -c zkit -n '__fish_seen_subcommand_from page' -l walkthrough -r -F -d 'Offers to play the commands of this file'
+complete -c zkit -n '__fish_seen_subcommand_from page' -l help -d 'Shows help'
+complete -c zkit -n '__fish_seen_subcommand_from page' -a '(__zkit_files "z3|z4|z5|z8|zblorb|zlb|blorb|blb|html")'
+
 complete -c zkit -n __fish_use_subcommand -a unpack -d 'Takes the story out of a Blorb file'
 complete -c zkit -n '__fish_seen_subcommand_from unpack' -l help -d 'Shows help'
 complete -c zkit -n '__fish_seen_subcommand_from unpack' -a '(__zkit_files "zblorb|zlb|blorb|blb")'

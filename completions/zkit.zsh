@@ -9,6 +9,7 @@ local -a commands=(
     'disasm:Disassembles the code reachable from the start'
     'check:Checks stories for damage and mistakes, and ends with status 6 if it finds any'
     'test:Plays walkthroughs and compares the output with their transcripts'
+    'page:Makes a page for browsers that plays a story'
     'unpack:Takes the story out of a Blorb file'
     'help:Shows help'
 )
@@ -93,6 +94,16 @@ case $words[1] in
             '--bless[Writes the expected transcripts instead of comparing them]' \
             '(- *)--help[Shows help]' \
             '*:path:_files -g "(#i)*.(walkthrough)(-.)"'
+        ;;
+    page)
+        _arguments \
+            '--title=[The story'\''s title]:text: ' \
+            '--author=[Who wrote the story]:text: ' \
+            '--blurb=[Shows the text of this file before the story begins]:file:_files' \
+            '--cover=[Shows this picture, PNG or JPEG, before the story begins]:file:_files' \
+            '--walkthrough=[Offers to play the commands of this file]:file:_files' \
+            '(- *)--help[Shows help]' \
+            '*:story out:_files -g "(#i)*.(z3|z4|z5|z8|zblorb|zlb|blorb|blb|html)(-.)"'
         ;;
     unpack)
         _arguments \

@@ -9,6 +9,7 @@ texts stand in sessions.cases. Each other one is a method here, which stops wher
 
 from __future__ import annotations
 
+import base64
 import itertools
 import json
 import os
@@ -16,6 +17,7 @@ import pty
 import re
 import resource
 import shlex
+import shutil
 import signal
 from collections.abc import Iterable
 from pathlib import Path
@@ -27,7 +29,18 @@ from ending import end_with
 
 BOOK = Book(Path(__file__).with_name("sessions.cases"))
 FILES = BOOK.files
+TITLE_PLACE, PARTS_PLACE = b"<title>zkit</title>", b'<script type="text/plain" id="own"></script>'
+PAGE = b"a" + TITLE_PLACE + b"<title>zkit</title>b" + PARTS_PLACE + b"c"
 FOUND = {"finding": "C5", "address": "000c7", "object": 2, "words": "object links"}  # in links.z3
+
+
+def page_with(title: bytes, parts: Iterable[tuple[str, bytes]]) -> bytes:
+    """The page of a story: the page of the cases with a title and parts of the story."""
+    text = b"".join(
+        b'<script type="text/plain" id="own-%s">%s</script>' % (name.encode(), base64.b64encode(content))
+        for name, content in parts
+    )
+    return PAGE.replace(TITLE_PLACE, b"<title>%s</title>" % title, 1).replace(PARTS_PLACE, text)
 
 
 class Asked(Written):
@@ -38,6 +51,23 @@ class Asked(Written):
         for name, check in vars(type(self)).items():
             if callable(check):
                 self.case(name, check, self)
+
+    def with_page(self, page: bytes, program: str = "own/zkit", place: str = "own/zkit.html") -> list[str]:
+        """The command of a program of its own, which has its page at a place."""
+        self.write({place: page, program: b""})
+        shutil.copy2(self.command[-1], self.folder / program)
+        return [*self.command[:-1], str(self.folder / program)]
+
+    def own_page(self, words: str, wanted: object = (0, "", ""), made: bytes | None = None, page: bytes = PAGE) -> None:
+        """What a program with a page of its own makes of words: `made` in `out.html`."""
+        self.command, before = self.with_page(page), self.command
+        try:
+            self.check(wanted, shlex.split(words))
+        finally:
+            self.command = before
+            shutil.rmtree(self.folder / "own")
+        same(made, self.read("out.html"))
+        (self.folder / "out.html").unlink(missing_ok=True)
 
     def at_terminal(self, words: str, turns: Iterable[tuple[str, str]] = (), **variables: str) -> str:
         """All that is shown at a terminal, by words of a shell, where a line is typed after each of some texts."""
@@ -237,6 +267,72 @@ class Sessions(Asked):
         self.check(shown(begins("marks.z3\tobject\t1\t^~\t0\t0\t0\t-\t-\n")), "info --objects --rows marks.z3")
         same('  o1 [label="1 ^~"];', self.run("info --graph marks.z3")[1].splitlines()[2])
         same('1 "^~"', self.run("info --tree marks.z3")[1].splitlines()[1])
+
+    def pages_have_their_story(self) -> None:
+        """A page has the title in its head and the rest as base64 where it has its place, and is the page else."""
+        picture = b"\x89PNG\r\n\x1a\n\0"
+        self.write({"words": "Dark.\n", "picture": picture, "way": "look\n"})
+        options = "--title 'A <b> & c' --author Ann --blurb words --cover picture --walkthrough way"
+        content = [
+            ("story", FILES["hello.z3"]), ("file", b"hello.z3"), ("title", b"A <b> & c"), ("author", b"Ann"),
+            ("blurb", b"Dark.\n"), ("cover", picture), ("walkthrough", b"look\n"),
+        ]
+        made = page_with(b"A &lt;b&gt; &amp; c", content)
+        self.own_page(f"page {options} hello.z3 out.html", made=made)
+        self.own_page(f"page hello.z3 out.html {options}", made=made)
+        jpeg = b"\xff\xd8\xff\xe0"
+        self.write({"picture": jpeg})
+        content = [("story", FILES["hello.z3"]), ("file", b"hello.z3"), ("cover", jpeg)]
+        self.own_page("page --cover picture ./hello.z3 out.html", made=page_with(b"hello.z3", content))
+
+    def pages_are_found_where_they_are_installed(self) -> None:
+        """The page lies beside the program, or where an installation puts it."""
+        self.command, before = self.with_page(PAGE, "own/bin/zkit", "own/share/doc/zkit/zkit.html"), self.command
+        try:
+            self.check((0, "", ""), "page hello.z3 out.html")
+        finally:
+            self.command = before
+        wanted = page_with(b"hello.z3", [("story", FILES["hello.z3"]), ("file", b"hello.z3")])
+        same(wanted, self.read("out.html"))
+        self.write({"own/bin/zkit.html": PAGE + b"d"})
+        self.command = [*before[:-1], str(self.folder / "own/bin/zkit")]
+        try:
+            self.check((0, "", ""), "page hello.z3 other.html")
+        finally:
+            self.command = before
+        same(wanted + b"d", self.read("other.html"))
+
+    def pages_that_are_not_made(self) -> None:
+        """Each refusal has words, and leaves no file."""
+        no_page = "zkit: zkit.html: there is no such file or folder\nzkit: read failed\n"
+        self.with_page(PAGE)
+        (self.folder / "own/zkit.html").unlink()
+        self.command, before = [*self.command[:-1], str(self.folder / "own/zkit")], self.command
+        try:
+            self.check((4, "", no_page), "page hello.z3 out.html")
+        finally:
+            self.command = before
+        for page in (b"", TITLE_PLACE, PARTS_PLACE + TITLE_PLACE):
+            self.own_page("page hello.z3 out.html", (1, "", "zkit: zkit.html: not the page of this zkit\n"), page=page)
+        self.write({"words": b"\xff", "picture": b"GIF89a"})
+        self.own_page("page --blurb words hello.z3 out.html", (1, "", "zkit: words: no text (UTF-8)\n"))
+        self.own_page("page --walkthrough words hello.z3 out.html", (1, "", "zkit: words: no text (UTF-8)\n"))
+        no_picture = "zkit: picture: neither a PNG nor a JPEG picture\n"
+        self.own_page("page --cover picture hello.z3 out.html", (1, "", no_picture))
+        for option in ("blurb", "cover", "walkthrough"):
+            missing = "zkit: missing: there is no such file or folder\nzkit: read failed\n"
+            self.own_page(f"page --{option} missing hello.z3 out.html", (4, "", missing))
+        missing = "zkit: missing.z5: there is no such file or folder\nzkit: read failed\n"
+        self.own_page("page missing.z5 out.html", (4, "", missing))
+        self.own_page("page words out.html", (1, "", ANY))
+        there = "zkit: words: File exists (os error 17)\nzkit: write failed\n"
+        self.own_page("page hello.z3 words", (4, "", there))
+        same(b"\xff", self.read("words"))
+
+    def findings_are_told_before_a_page(self) -> None:
+        """How many findings a check has is told, and the page is made."""
+        made = page_with(b"links.z3", [("story", FILES["links.z3"]), ("file", b"links.z3")])
+        self.own_page("page links.z3 out.html", (0, "", "zkit: links.z3: zkit check has 2 findings\n"), made)
 
     def stories_come_from_a_pipe(self) -> None:
         """A story is opened once, so a pipe gives all that a file does."""

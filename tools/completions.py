@@ -9,7 +9,8 @@ from option_table import VALUES, Option, read_abouts, read_commands, read_screen
 
 # What files end with: those of Blorb, stories, and walkthroughs.
 BLORBS = ["zblorb", "zlb", "blorb", "blb"]
-ENDINGS = {"STORY": ["z3", "z4", "z5", "z8", *BLORBS], "PATH": ["walkthrough"], "FILE": BLORBS}
+STORIES = ["z3", "z4", "z5", "z8", *BLORBS]
+ENDINGS = {"STORY": STORIES, "STORY OUT": [*STORIES, "html"], "PATH": ["walkthrough"], "FILE": BLORBS}
 
 T = TypeVar("T")
 FILE, FOLDER = VALUES["File"], VALUES["Folder"]
@@ -32,7 +33,7 @@ def read_all() -> list[Command]:
     """The commands of zkit."""
     abouts = read_abouts()
     taken = [
-        Command(name, abouts[name], options, last.rstrip("."), ENDINGS[last.rstrip(".")], last.endswith("..."))
+        Command(name, abouts[name], options, last.rstrip("."), ENDINGS[last.rstrip(".")], last != "STORY")
         for name, options, last in read_commands()
     ]
     return [*taken, Command("unpack", abouts["unpack"], [], "FILE", ENDINGS["FILE"], True)]

@@ -16,7 +16,7 @@ SECTIONS = TOP / "crates" / "zk_inspect" / "src" / "section.rt"
 SCREEN = TOP / "screen" / "main.c"
 
 # What stands after an option of each kind.
-VALUES = {"File": "FILE", "Folder": "FOLDER", "Address": "ADDRESS", "Flag": ""}
+VALUES = {"File": "FILE", "Folder": "FOLDER", "Line": "TEXT", "Address": "ADDRESS", "Flag": ""}
 
 
 class Option(NamedTuple):
@@ -65,7 +65,7 @@ def read_options(text: str, constant: str) -> list[Option]:
     known = {**read_numbers(text), **read_shared(text)}
     listed = text[text.index(f"const {constant}:"):].split("= [", 1)[1].split("];")[0]
     row = (
-        r'CommandOption::(?:Number\((\w+)\)|(File|Folder|Address|Flag) \{\s*name: "([\w-]+)",\s*help: "([^"]*)")'
+        r'CommandOption::(?:Number\((\w+)\)|(File|Folder|Line|Address|Flag) \{\s*name: "([\w-]+)",\s*help: "([^"]*)")'
         r"|\b([A-Z_]{4,}),?"
     )
     return [
@@ -93,6 +93,7 @@ def read_commands() -> list[tuple[str, list[Option], str]]:
         ("disasm", read_options(text, "DISASM_OPTIONS"), "STORY"),
         ("check", read_options(text, "CHECK_OPTIONS"), "STORY..."),
         ("test", read_options(text, "TEST_OPTIONS"), "PATH..."),
+        ("page", read_options(text, "PAGE_OPTIONS"), "STORY OUT"),
     ]
 
 
