@@ -17,12 +17,11 @@ use Rattle.zk_command.specs.declared.settings.Amount.{Amount}
 use Rattle.zk_command.specs.declared.settings.PlayOptions.{PlayOptions}
 use Rattle.zk_command.specs.CommandLine.{Asks, IsAmount, IsNumberIn, IsOtherName, IsRefusedWith, MaySayAmount, MetSays}
 use Rattle.zk_command.specs.CommandLine.{Says, SaysAsked, SaysOptions, SaysNumber, SaysStory, command_line, flag_said}
-use Rattle.zk_command.specs.CommandLine.{number_in, option_rule, or_header, table_command, usage_status, with_rules}
+use Rattle.zk_command.specs.CommandLine.{number_in, or_header, table_command, usage_status, with_rules}
 use Rattle.zk_command.specs.CommandLine.{with_tables}
 use Rattle.zk_inspect.specs.declared.section.Section.{Section}
 use Rattle.zk_inspect.specs.declared.section.Section.TheVariants.{Header}
 use Rattle.zk_command.specs.declared.choice.Choice.{Choice}
-use Rattle.zk_command.specs.declared.options.CommandOption.{CommandOption}
 use Rattle.zk_command.specs.declared.options.CommandTable.{CommandTable}
 use Rattle.zk_command.specs.declared.choice.Choice.TheVariants.{Play, Show, Test, Unpack, Page}
 use Rattle.zk_command.specs.declared.settings.Asked.{Asked}

@@ -633,7 +633,8 @@ fn choose_listing<'a>(
             Err(usage_error(command, ErrorKind::MissingRequiredArgument, text))
         }
         None => {
-            let text = "the commands are 'play', 'info', 'disasm', 'check', 'test', 'unpack' and 'page'";
+            let text =
+                "the commands are 'play', 'info', 'disasm', 'check', 'test', 'unpack' and 'page'";
             Err(usage_error(command, ErrorKind::InvalidSubcommand, text))
         }
     }

@@ -373,5 +373,6 @@ const STORY_PAGE: CommandTable = CommandTable {
 };
 
 /// The commands.
-pub(crate) const COMMANDS: [CommandTable; 7] =
-    [PLAY, INFO, DISASM, CHECK, TEST, UNPACK, STORY_PAGE];
+pub(crate) const COMMANDS: [CommandTable; 7] = [
+    PLAY, INFO, DISASM, CHECK, TEST, UNPACK, STORY_PAGE,
+];

@@ -244,6 +244,13 @@ pub fn make_story_page(rt: &HostRuntime, path: &str, out: &str, options: &PageOp
         Err(error) => return tell_unread(rt, PLACES[0], error),
     };
     let alloc = rt.alloc();
-    let made = make_page(alloc, template.as_slice(), path, file.as_slice(), options, &files);
+    let made = make_page(
+        alloc,
+        template.as_slice(),
+        path,
+        file.as_slice(),
+        options,
+        &files,
+    );
     write_page(rt, out, made)
 }
