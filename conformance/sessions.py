@@ -29,6 +29,7 @@ from ending import end_with
 
 BOOK = Book(Path(__file__).with_name("sessions.cases"))
 FILES = BOOK.files
+CAVE = FILES["verifies_right.z3"]
 TITLE_PLACE, PARTS_PLACE = b"<title>zkit</title>", b'<script type="text/plain" id="own"></script>'
 PAGE = b"a" + TITLE_PLACE + b"<title>zkit</title>b" + PARTS_PLACE + b"c"
 FOUND = {"finding": "C5", "address": "000c7", "object": 2, "words": "object links"}  # in links.z3
@@ -54,7 +55,7 @@ class Asked(Written):
 
     def with_page(self, page: bytes, program: str = "own/zkit", place: str = "own/zkit.html") -> list[str]:
         """The command of a program of its own, which has its page at a place."""
-        self.write({place: page, program: b""})
+        self.write({place: page, program: b"", "cave.z3": CAVE})
         shutil.copy2(self.command[-1], self.folder / program)
         return [*self.command[:-1], str(self.folder / program)]
 
@@ -274,30 +275,30 @@ class Sessions(Asked):
         self.write({"words": "Dark.\n", "picture": picture, "way": "look\n"})
         options = "--title 'A <b> & c' --author Ann --blurb words --cover picture --walkthrough way"
         content = [
-            ("story", FILES["hello.z3"]), ("file", b"hello.z3"), ("title", b"A <b> & c"), ("author", b"Ann"),
+            ("story", CAVE), ("file", b"cave.z3"), ("title", b"A <b> & c"), ("author", b"Ann"),
             ("blurb", b"Dark.\n"), ("cover", picture), ("walkthrough", b"look\n"),
         ]
         made = page_with(b"A &lt;b&gt; &amp; c", content)
-        self.own_page(f"page {options} hello.z3 out.html", made=made)
-        self.own_page(f"page hello.z3 out.html {options}", made=made)
+        self.own_page(f"page {options} cave.z3 out.html", made=made)
+        self.own_page(f"page cave.z3 out.html {options}", made=made)
         jpeg = b"\xff\xd8\xff\xe0"
         self.write({"picture": jpeg})
-        content = [("story", FILES["hello.z3"]), ("file", b"hello.z3"), ("cover", jpeg)]
-        self.own_page("page --cover picture ./hello.z3 out.html", made=page_with(b"hello.z3", content))
+        content = [("story", CAVE), ("file", b"cave.z3"), ("cover", jpeg)]
+        self.own_page("page --cover picture ./cave.z3 out.html", made=page_with(b"cave.z3", content))
 
     def pages_are_found_where_they_are_installed(self) -> None:
         """The page lies beside the program, or where an installation puts it."""
         self.command, before = self.with_page(PAGE, "own/bin/zkit", "own/share/doc/zkit/zkit.html"), self.command
         try:
-            self.check((0, "", ""), "page hello.z3 out.html")
+            self.check((0, "", ""), "page cave.z3 out.html")
         finally:
             self.command = before
-        wanted = page_with(b"hello.z3", [("story", FILES["hello.z3"]), ("file", b"hello.z3")])
+        wanted = page_with(b"cave.z3", [("story", CAVE), ("file", b"cave.z3")])
         same(wanted, self.read("out.html"))
         self.write({"own/bin/zkit.html": PAGE + b"d"})
         self.command = [*before[:-1], str(self.folder / "own/bin/zkit")]
         try:
-            self.check((0, "", ""), "page hello.z3 other.html")
+            self.check((0, "", ""), "page cave.z3 other.html")
         finally:
             self.command = before
         same(wanted + b"d", self.read("other.html"))
@@ -309,24 +310,24 @@ class Sessions(Asked):
         (self.folder / "own/zkit.html").unlink()
         self.command, before = [*self.command[:-1], str(self.folder / "own/zkit")], self.command
         try:
-            self.check((4, "", no_page), "page hello.z3 out.html")
+            self.check((4, "", no_page), "page cave.z3 out.html")
         finally:
             self.command = before
         for page in (b"", TITLE_PLACE, PARTS_PLACE + TITLE_PLACE):
-            self.own_page("page hello.z3 out.html", (1, "", "zkit: zkit.html: not the page of this zkit\n"), page=page)
+            self.own_page("page cave.z3 out.html", (1, "", "zkit: zkit.html: not the page of this zkit\n"), page=page)
         self.write({"words": b"\xff", "picture": b"GIF89a"})
-        self.own_page("page --blurb words hello.z3 out.html", (1, "", "zkit: words: no text (UTF-8)\n"))
-        self.own_page("page --walkthrough words hello.z3 out.html", (1, "", "zkit: words: no text (UTF-8)\n"))
+        self.own_page("page --blurb words cave.z3 out.html", (1, "", "zkit: words: no text (UTF-8)\n"))
+        self.own_page("page --walkthrough words cave.z3 out.html", (1, "", "zkit: words: no text (UTF-8)\n"))
         no_picture = "zkit: picture: neither a PNG nor a JPEG picture\n"
-        self.own_page("page --cover picture hello.z3 out.html", (1, "", no_picture))
+        self.own_page("page --cover picture cave.z3 out.html", (1, "", no_picture))
         for option in ("blurb", "cover", "walkthrough"):
             missing = "zkit: missing: there is no such file or folder\nzkit: read failed\n"
-            self.own_page(f"page --{option} missing hello.z3 out.html", (4, "", missing))
+            self.own_page(f"page --{option} missing cave.z3 out.html", (4, "", missing))
         missing = "zkit: missing.z5: there is no such file or folder\nzkit: read failed\n"
         self.own_page("page missing.z5 out.html", (4, "", missing))
         self.own_page("page words out.html", (1, "", ANY))
         there = "zkit: words: File exists (os error 17)\nzkit: write failed\n"
-        self.own_page("page hello.z3 words", (4, "", there))
+        self.own_page("page cave.z3 words", (4, "", there))
         same(b"\xff", self.read("words"))
 
     def findings_are_told_before_a_page(self) -> None:
