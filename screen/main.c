@@ -40,7 +40,9 @@ static const char help[] =
     "  --help          shows this\n"
     "  --version       shows the version\n"
     "\n"
-    "In a play, Alt-H or F1 shows the keys.\n";
+    "In a play, Alt-H or F1 shows the keys. The play goes on where you left off, and\n"
+    "Up brings back the lines of earlier plays: the folder zkit in $XDG_STATE_HOME,\n"
+    "or in ~/.local/state, keeps both.\n";
 
 static struct play play;
 
@@ -207,6 +209,7 @@ static uint32_t columns_for_story(void) {
 static void go_on_or_begin(void) {
     uint64_t seed = play.options.seed;
     key pressed = L'n';
+    find_kept(&play);
     if (open_kept(&play))
         pressed = ask(&play, "Go on where you left off? (y/n) ", "yn");
     if (pressed == L'y')

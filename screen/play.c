@@ -154,7 +154,7 @@ static bool give_line(struct play *play, const struct line *line, key pressed) {
         return false;
     play->seen = text_end(&play->text);
     play->keyed = 0;
-    history_add(&play->lines, line);
+    keep_line(play, line);
     note_answer(play, line);
     return true;
 }

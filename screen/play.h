@@ -54,7 +54,9 @@ struct play {
     FILE *transcript;
     bool is_transcript_refused;
     char kept[LONGEST_PATH];     /* the file that the play is kept in; empty, if there is none */
+    char kept_lines[LONGEST_PATH]; /* and that of the lines */
     bool is_told_of_keeping;
+    bool is_told_of_lines;
 };
 
 /* ---- view.c: what the reader sees */
@@ -86,8 +88,14 @@ void note_answer(struct play *play, const struct line *answer);
 /* Goes back to before the last answer; answers whether there is one. */
 bool go_back(struct play *play);
 
+/* Finds the files in which a play of this story and its lines are kept, and reads the lines. */
+void find_kept(struct play *play);
+
 /* Opens the play that was kept, or answers false. */
 bool open_kept(struct play *play);
+
+/* Adds a line to the history, here and in its file. */
+void keep_line(struct play *play, const struct line *line);
 
 /* Opens the story at its start, or answers why not. */
 uint32_t open_new(struct play *play);

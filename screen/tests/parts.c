@@ -146,6 +146,19 @@ static void try_files(const char *folder) {
     TRY(path_of(path, folder, "nowhere/file") && !file_write(path, (const uint8_t *)"one", 3));
 }
 
+/* A file keeps its rights when it is replaced, but for one that nobody else may read. */
+static void try_rights(const char *folder) {
+    char path[LONGEST_PATH];
+    struct stat status;
+    umask(022);
+    TRY(path_of(path, folder, "rights") && file_write(path, (const uint8_t *)"one", 3));
+    TRY(stat(path, &status) == 0 && (status.st_mode & 0777) == 0644);
+    TRY(chmod(path, 0664) == 0 && file_write(path, (const uint8_t *)"two", 3));
+    TRY(stat(path, &status) == 0 && (status.st_mode & 0777) == 0664);
+    TRY(file_write_private(path, (const uint8_t *)"three", 5));
+    TRY(stat(path, &status) == 0 && (status.st_mode & 0777) == 0600 && status.st_size == 5);
+}
+
 /* Of 25 saved games the 20 newest are listed, the newest first, and those of one time by their names. */
 static void try_saves(const char *folder) {
     static const zkit_story story = {.release = 0x102, .checksum = 0x304, .serial = "261130"};
@@ -207,6 +220,47 @@ static void try_kept(void) {
     free(bytes);
     text_close(&text);
     text_close(&again);
+}
+
+/* Says whether a history has so many lines, and the last one is this. */
+static bool has_lines(const struct history *lines, size_t count, const wchar_t *last) {
+    const struct line *it = &lines->lines[count > 0 ? count - 1 : 0];
+    return lines->count == count && (count == 0 || (it->length == wcslen(last) && wmemcmp(it->at, last, it->length) == 0));
+}
+
+/* Lines are found again, the longest ones too; a file of which a byte is missing or changed has none. */
+static void try_lines(void) {
+    static struct history lines, again;
+    struct line line = {.length = LONGEST_LINE};
+    size_t length;
+    for (int i = 0; i < LONGEST_LINE; i++)
+        line.at[i] = 0x1f600;
+    for (int i = 0; i < MOST_LINES; i++)
+        history_add(&lines, &line);
+    uint8_t *bytes = kept_lines(&lines, &length);
+    TRY(bytes && length == 16 + MOST_LINES * (4 * LONGEST_LINE + 1) && kept_history(bytes, length, &again));
+    TRY(again.count == MOST_LINES && again.lines[0].length == LONGEST_LINE && again.lines[0].at[254] == 0x1f600);
+    free(bytes);
+    lines.count = 0;
+    bytes = kept_lines(&lines, &length);
+    TRY(bytes && kept_history(bytes, length, &again) && has_lines(&again, 0, L""));
+    free(bytes);
+    history_add(&lines, &(struct line){L"look", 4});
+    history_add(&lines, &(struct line){L"l\u00e4s \u20ac\033\177", 7});
+    bytes = kept_lines(&lines, &length);
+    TRY(bytes && kept_history(bytes, length, &again) && has_lines(&again, 2, L"l\u00e4s \u20ac??"));
+    for (size_t part = 0; part < length; part++) {
+        uint8_t *copy = malloc(part + 1);
+        memcpy(copy, bytes, part);
+        TRY(!kept_history(copy, part, &again) && has_lines(&again, 0, L""));
+        free(copy);
+        for (int change = 1; change < 256; change++) {
+            bytes[part] ^= (uint8_t)change;
+            TRY(!kept_history(bytes, length, &again) && has_lines(&again, 0, L""));
+            bytes[part] ^= (uint8_t)change;
+        }
+    }
+    free(bytes);
 }
 
 /* ---- rows of the upper window, from a game of one row */
@@ -310,8 +364,10 @@ int main(int count, char **words) {
     try_history();
     try_names();
     try_files(words[1]);
+    try_rights(words[1]);
     try_saves(words[1]);
     try_kept();
+    try_lines();
     try_wide();
     try_grid();
     printf("%d tries\n", tries);
