@@ -21,9 +21,11 @@ static void say(struct play *play, const char *words) {
 
 /* ---- names */
 
-/* A question for a name: its words, the name that Enter takes, and the saved games that are listed. */
+/* A question for a name: its words, what Escape does, the name that Enter takes, and the saved games that are
+ * listed. */
 struct question {
     const char *words;
+    const char *refusal;
     char offered[LONGEST_NAME];
     const char *ending;
     struct saved saves[MOST_SAVES];
@@ -73,6 +75,7 @@ static enum fate ask_name(struct play *play, const struct question *question, ch
         const char *form = question->offered[0] ? "%s [%s]? " : "%s? ";
         snprintf(prompt, sizeof prompt, form, question->words, question->offered);
         text_add_words(&play->text, prompt);
+        notice(play, question->offered[0] ? "[Enter takes it, Esc %s]" : "[Esc %s]", question->refusal);
         editor_begin(&editor, &names, LONGEST_LINE);
         key pressed = edit(play, &editor);
         begin_line(play);
@@ -139,6 +142,7 @@ enum fate answer_save(struct play *play) {
     static struct question question;
     char path[LONGEST_PATH];
     question.words = "Save to which file";
+    question.refusal = "saves nothing";
     question.ending = saves_end;
     question.count = saves_in(play->folder, &play->about, question.saves);
     snprintf(question.offered, LONGEST_NAME, "%s", play->save_name);
@@ -185,6 +189,7 @@ enum fate answer_restore(struct play *play) {
     static struct question question;
     char name[LONGEST_NAME], path[LONGEST_PATH];
     question.words = "Restore from which file";
+    question.refusal = "restores nothing";
     question.ending = saves_end;
     question.count = saves_in(play->folder, &play->about, question.saves);
     question.offered[0] = 0;
@@ -216,6 +221,7 @@ static enum fate open_transcript(struct play *play) {
     }
     text_cut(&play->text, text_end(&play->text) - length);
     question.words = "Transcript to which file";
+    question.refusal = "writes none";
     question.ending = transcripts_end;
     question.count = 0;
     snprintf(question.offered, LONGEST_NAME, "%.*s%s", LONGEST_NAME - 8, play->stem, transcripts_end);

@@ -16,7 +16,9 @@ static const struct line no_line;
 /* ---- leaving */
 
 enum fate ask_to_leave(struct play *play) {
-    key pressed = ask(play, "Leave the story? (y/n) ", "yn");
+    bool is_kept = play->kept[0] && !play->is_told_of_keeping;
+    const char *told = is_kept ? "Leave? You can go on later. (y/n) " : "Leave? This play is not kept. (y/n) ";
+    key pressed = ask(play, told, "yn");
     return pressed == L'y' || pressed == PRESS_GONE ? IS_LEFT : GOES_ON;
 }
 
@@ -170,11 +172,11 @@ static enum fate answer_line(struct play *play) {
             text_add_words(&play->text, "\n");
         if ((pressed == L'\n' || is_function_key(pressed)) && give_line(play, &editor.line, pressed))
             return GOES_ON;
+        if (pressed == PRESS_GONE || (pressed == PRESS_STOP && ask_to_leave(play) == IS_LEFT))
+            return IS_LEFT;
         text_cut(&play->text, start);
         if (is_function_key(pressed))
             editor_press(&editor, pressed);
-        if (pressed == PRESS_GONE || (pressed == PRESS_STOP && ask_to_leave(play) == IS_LEFT))
-            return IS_LEFT;
         if (pressed == PRESS_UNDO) {
             undo(play);
             return GOES_ON;
