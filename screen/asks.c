@@ -64,6 +64,14 @@ static bool name_meant(const struct question *question, const char *typed, char 
     return name_of_save(name, meant, question->ending);
 }
 
+/* Shows a list that is longer than the screen a page at a time. Escape leaves the rest out. */
+static enum fate show_list(struct play *play) {
+    key pressed = PRESS_NONE;
+    while (has_more(play) && pressed != PRESS_ESCAPE && pressed != PRESS_STOP && pressed != PRESS_GONE)
+        pressed = show_page(play);
+    return pressed == PRESS_GONE ? IS_LEFT : GOES_ON;
+}
+
 /* Asks for a name until it may be one, or the reader gives none by Escape: then it is empty. */
 static enum fate ask_name(struct play *play, const struct question *question, char name[LONGEST_NAME]) {
     static struct history names;
@@ -71,6 +79,9 @@ static enum fate ask_name(struct play *play, const struct question *question, ch
     char prompt[2 * LONGEST_NAME], typed[4 * LONGEST_LINE + 1];
     names.count = 0;
     list_saves(play, question, &names);
+    name[0] = 0;
+    if (show_list(play) == IS_LEFT)
+        return IS_LEFT;
     for (;;) {
         const char *form = question->offered[0] ? "%s [%s]? " : "%s? ";
         snprintf(prompt, sizeof prompt, form, question->words, question->offered);

@@ -215,6 +215,7 @@ static void go_on_or_begin(void) {
     if (pressed == L'y')
         return;
     play.options.seed = seed;
+    play.is_answered = false;
     play.options.columns = columns_for_story();
     if (pressed != L'n' || open_new(&play) != ZKIT_OPENED)
         play.is_left = true;

@@ -58,25 +58,28 @@ static void take_text(struct play *play) {
     play->cursor = text_end(&play->text);
 }
 
-/* Shows a page of new text, and waits for a key. */
-static enum fate show_page(struct play *play) {
+key show_page(struct play *play) {
     play->is_paged = true;
     key pressed = play_key(play);
-    enum fate fate = pressed == PRESS_GONE ? IS_LEFT : GOES_ON;
-    if (pressed == PRESS_STOP || pressed == PRESS_ESCAPE)
-        fate = stop(play);
-    else
+    if (pressed != PRESS_STOP && pressed != PRESS_ESCAPE)
         play->seen = page_end(play);
     play->is_paged = false;
-    return fate;
+    return pressed;
 }
 
 /* Shows new text a page at a time. `is_back` tells whether the reader has gone back instead. */
 static enum fate show_pages(struct play *play, bool *is_back) {
     size_t states = play->state_count;
     enum fate fate = GOES_ON;
-    while (fate == GOES_ON && play->state_count == states && has_more(play))
-        fate = show_page(play);
+    while (fate == GOES_ON && play->state_count == states && has_more(play)) {
+        key pressed = show_page(play);
+        play->is_paged = true; /* the page stays while the reader is asked */
+        if (pressed == PRESS_STOP || pressed == PRESS_ESCAPE)
+            fate = stop(play);
+        else if (pressed == PRESS_GONE)
+            fate = IS_LEFT;
+        play->is_paged = false;
+    }
     *is_back = play->state_count != states;
     return fate;
 }

@@ -36,6 +36,7 @@ struct play {
     place erased;                /* and the story has erased that */
     bool is_paged;               /* a page from `seen` on is shown, and not the end of the text */
     bool is_left;                /* the reader has left before it began */
+    bool is_answered;            /* the reader has given an answer in this play, or it goes on from another time */
     bool is_busy;                /* the reader is told that the story runs */
     bool is_back;                /* earlier text is shown, from this row on: */
     place back;
@@ -114,6 +115,9 @@ enum fate take_transcript(struct play *play);
 
 /* Has a line edited at the end of the text. Answers the key that ended that: Enter, or one that means no change. */
 key edit(struct play *play, struct editor *editor);
+
+/* Shows a page of new text, and waits for a key. Each but Escape and Control-C goes on to the next page. */
+key show_page(struct play *play);
 
 /* Asks whether to leave. */
 enum fate ask_to_leave(struct play *play);

@@ -87,11 +87,13 @@ void keep_state(struct play *play) {
     play->now.length = length;
     play->now.end = text_end(&play->text);
     play->now.erased = play->erased;
-    if (play->kept[0])
+    /* one that has only begun leaves what was kept before, in case the reader has begun it by mistake */
+    if (play->kept[0] && play->is_answered)
         write_kept(play);
 }
 
 void note_answer(struct play *play, const struct line *answer) {
+    play->is_answered = true;
     if (!play->now.snapshot)
         return;
     if (play->state_count == MOST_STATES) {
@@ -175,6 +177,7 @@ bool open_kept(struct play *play) {
         replace_game(play, game);
         kept_text(&kept, &play->text);
         play->options.seed = kept.seed;
+        play->is_answered = true;
         play->seen = play->cursor = text_end(&play->text);
     } else {
         uint8_t words[100];
