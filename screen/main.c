@@ -245,9 +245,10 @@ static int play_on_terminal(void) {
         fputs("zkit-screen: this takes a terminal; zkit play plays without one\n", stderr);
         return REFUSED;
     }
-    if (!terminal_open()) {
+    const char *refused = terminal_open();
+    if (refused) {
         const char *kind = getenv("TERM");
-        fprintf(stderr, "zkit-screen: the terminal %s is not known; zkit play plays here\n", kind ? kind : "(no TERM)");
+        fprintf(stderr, "zkit-screen: the terminal %s %s; zkit play plays here\n", kind ? kind : "(no TERM)", refused);
         return REFUSED;
     }
     go_on_or_begin();

@@ -94,12 +94,24 @@ static void name_keys(void) {
     }
 }
 
-bool terminal_open(void) {
+/* Says why a terminal of this kind can't be taken, or null. */
+static const char *refusal(void) {
+    int status;
+    if (setupterm(NULL, STDOUT_FILENO, &status) != OK)
+        return "is not known";
+    const char *places = tigetstr("cup");
+    return places && places != (const char *)-1 ? NULL : "can't place a cursor";
+}
+
+const char *terminal_open(void) {
+    const char *refused = refusal();
+    if (refused)
+        return refused;
     tcgetattr(STDIN_FILENO, &before);
     take_signals();
     if (!newterm(NULL, stdout, stdin)) {
         sigprocmask(SIG_SETMASK, &outside, NULL);
-        return false;
+        return "is not known";
     }
     add_leaving("sgr0");
     add_leaving("cnorm");
@@ -112,7 +124,7 @@ bool terminal_open(void) {
     name_keys();
     timeout(KEY_WAIT);
     set_escdelay(100);
-    return true;
+    return NULL;
 }
 
 void terminal_close(void) {
