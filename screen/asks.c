@@ -30,6 +30,8 @@ struct question {
     const char *ending;
     struct saved saves[MOST_SAVES];
     size_t count;
+    bool may_add;            /* text may be added to a file that is there, */
+    bool adds;               /* and is */
 };
 
 /* Lists the saved games, and puts their names into a history, so that Up and Down go through them. */
@@ -105,13 +107,14 @@ static enum fate ask_name(struct play *play, const struct question *question, ch
     }
 }
 
-/* Asks whether a file is replaced, if it is there. */
-static key ask_to_replace(struct play *play, const char *path, const char *name) {
+/* Asks whether a file is replaced, or added to, if it is there. Answers with `a` for that, and with `r` or `y` if it is
+ * to be written as a new one. */
+static key ask_to_replace(struct play *play, const struct question *question, const char *path, const char *name) {
     char words[LONGEST_NAME + 40];
     if (!file_is_there(path))
         return L'y';
-    snprintf(words, sizeof words, "Replace %s? (y/n) ", name);
-    return ask(play, words, "yn");
+    snprintf(words, sizeof words, question->may_add ? "Add to %s or replace it? (a/r) " : "Replace %s? (y/n) ", name);
+    return ask(play, words, question->may_add ? "ar" : "yn");
 }
 
 /* Asks for the path of a file that is to be written. It is empty if there is to be none. */
@@ -122,10 +125,11 @@ static enum fate ask_new_path(struct play *play, struct question *question, char
         path[0] = 0;
         if (fate == IS_LEFT || name[0] == 0 || !path_of(path, play->folder, name))
             return fate;
-        key pressed = ask_to_replace(play, path, name);
+        key pressed = ask_to_replace(play, question, path, name);
         if (pressed == PRESS_GONE)
             return IS_LEFT;
-        if (pressed == L'y') {
+        question->adds = pressed == L'a';
+        if (pressed == L'y' || pressed == L'r' || pressed == L'a') {
             snprintf(question->offered, LONGEST_NAME, "%s", name);
             return GOES_ON;
         }
@@ -234,13 +238,14 @@ static enum fate open_transcript(struct play *play) {
     question.words = "Transcript to which file";
     question.refusal = "writes none";
     question.ending = transcripts_end;
+    question.may_add = true;
     question.count = 0;
     snprintf(question.offered, LONGEST_NAME, "%.*s%s", LONGEST_NAME - 8, play->stem, transcripts_end);
     enum fate fate = ask_new_path(play, &question, path);
     for (size_t i = 0; i < length; i++)
         text_add(&play->text, prompt[i], styles[i]);
     play->is_transcript_refused = path[0] == 0;
-    if (path[0] && !(play->transcript = fopen(path, "w"))) {
+    if (path[0] && !(play->transcript = fopen(path, question.adds ? "a" : "w"))) {
         notice(play, "[%s: %s]", path, strerror(errno));
         play->is_transcript_refused = true;
     }

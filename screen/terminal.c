@@ -218,14 +218,15 @@ static key key_after_escape(void) {
     key pressed = kind == OK ? key_with_alt(next) : PRESS_NONE;
     if (kind == ERR || pressed != PRESS_NONE)
         return kind == ERR ? PRESS_ESCAPE : pressed;
-    if (kind == KEY_CODE_YES && !is_typed)
-        return named_key(next);
-    if (!is_typed && next != 27) {
-        skip_rest(next);
-        return PRESS_NONE;
+    bool is_own = is_typed || next == 27 || (kind == KEY_CODE_YES && next == KEY_RESIZE);
+    if (is_own) {
+        read_again(kind, next);
+        return PRESS_ESCAPE;
     }
-    read_again(kind, next);
-    return PRESS_ESCAPE;
+    if (kind == KEY_CODE_YES)
+        return named_key(next);
+    skip_rest(next);
+    return PRESS_NONE;
 }
 
 /* Looks, or waits, until there is input or a signal, and answers whether there is. */

@@ -112,6 +112,14 @@ static void try_history(void) {
     history_add(&history, &line);
     TRY(history.count == 0);
     line.length = 1;
+    history_add(&history, &line);
+    history_add(&history, &line);
+    TRY(history.count == 1);
+    history_add(&history, &(struct line){L"b", 1});
+    history_add(&history, &(struct line){L"bb", 2});
+    history_add(&history, &line);
+    TRY(history.count == 4 && history.lines[3].at[0] == L'a');
+    history.count = 0;
     for (int i = 0; i < MOST_LINES + 3; i++) {
         line.at[0] = (wchar_t)(0x100 + i);
         history_add(&history, &line);
@@ -235,8 +243,10 @@ static void try_lines(void) {
     size_t length;
     for (int i = 0; i < LONGEST_LINE; i++)
         line.at[i] = 0x1f600;
-    for (int i = 0; i < MOST_LINES; i++)
+    for (int i = 0; i < MOST_LINES; i++) {
+        line.at[7] = L'\U0001f600' + i;
         history_add(&lines, &line);
+    }
     uint8_t *bytes = kept_lines(&lines, &length);
     TRY(bytes && length == 16 + MOST_LINES * (4 * LONGEST_LINE + 1) && kept_history(bytes, length, &again));
     TRY(again.count == MOST_LINES && again.lines[0].length == LONGEST_LINE && again.lines[0].at[254] == 0x1f600);
