@@ -233,7 +233,8 @@ static void try_kept(void) {
 /* Says whether a history has so many lines, and the last one is this. */
 static bool has_lines(const struct history *lines, size_t count, const wchar_t *last) {
     const struct line *it = &lines->lines[count > 0 ? count - 1 : 0];
-    return lines->count == count && (count == 0 || (it->length == wcslen(last) && wmemcmp(it->at, last, it->length) == 0));
+    size_t length = count > 0 ? it->length : 0;
+    return lines->count == count && length == wcslen(last) && wmemcmp(it->at, last, length) == 0;
 }
 
 /* Lines are found again, the longest ones too; a file of which a byte is missing or changed has none. */
