@@ -21,13 +21,17 @@ static void say(struct play *play, const char *words) {
 
 /* ---- names */
 
-/* A question for a name: its words, the name that Enter takes, and the saved games that are listed. */
+/* A question for a name: its words, what Escape does, the name that Enter takes, and the saved games that are
+ * listed. */
 struct question {
     const char *words;
+    const char *refusal;
     char offered[LONGEST_NAME];
     const char *ending;
     struct saved saves[MOST_SAVES];
     size_t count;
+    bool may_add;            /* text may be added to a file that is there, */
+    bool adds;               /* and is */
 };
 
 /* Lists the saved games, and puts their names into a history, so that Up and Down go through them. */
@@ -62,6 +66,14 @@ static bool name_meant(const struct question *question, const char *typed, char 
     return name_of_save(name, meant, question->ending);
 }
 
+/* Shows a list that is longer than the screen a page at a time. Escape leaves the rest out. */
+static enum fate show_list(struct play *play) {
+    key pressed = PRESS_NONE;
+    while (has_more(play) && pressed != PRESS_ESCAPE && pressed != PRESS_STOP && pressed != PRESS_GONE)
+        pressed = show_page(play);
+    return pressed == PRESS_GONE ? IS_LEFT : GOES_ON;
+}
+
 /* Asks for a name until it may be one, or the reader gives none by Escape: then it is empty. */
 static enum fate ask_name(struct play *play, const struct question *question, char name[LONGEST_NAME]) {
     static struct history names;
@@ -69,10 +81,14 @@ static enum fate ask_name(struct play *play, const struct question *question, ch
     char prompt[2 * LONGEST_NAME], typed[4 * LONGEST_LINE + 1];
     names.count = 0;
     list_saves(play, question, &names);
+    name[0] = 0;
+    if (show_list(play) == IS_LEFT)
+        return IS_LEFT;
     for (;;) {
         const char *form = question->offered[0] ? "%s [%s]? " : "%s? ";
         snprintf(prompt, sizeof prompt, form, question->words, question->offered);
         text_add_words(&play->text, prompt);
+        notice(play, question->offered[0] ? "[Enter takes it, Esc %s]" : "[Esc %s]", question->refusal);
         editor_begin(&editor, &names, LONGEST_LINE);
         key pressed = edit(play, &editor);
         begin_line(play);
@@ -91,13 +107,14 @@ static enum fate ask_name(struct play *play, const struct question *question, ch
     }
 }
 
-/* Asks whether a file is replaced, if it is there. */
-static key ask_to_replace(struct play *play, const char *path, const char *name) {
+/* Asks whether a file is replaced, or added to, if it is there. Answers with `a` for that, and with `r` or `y` if it is
+ * to be written as a new one. */
+static key ask_to_replace(struct play *play, const struct question *question, const char *path, const char *name) {
     char words[LONGEST_NAME + 40];
     if (!file_is_there(path))
         return L'y';
-    snprintf(words, sizeof words, "Replace %s? (y/n) ", name);
-    return ask(play, words, "yn");
+    snprintf(words, sizeof words, question->may_add ? "Add to %s or replace it? (a/r) " : "Replace %s? (y/n) ", name);
+    return ask(play, words, question->may_add ? "ar" : "yn");
 }
 
 /* Asks for the path of a file that is to be written. It is empty if there is to be none. */
@@ -108,10 +125,11 @@ static enum fate ask_new_path(struct play *play, struct question *question, char
         path[0] = 0;
         if (fate == IS_LEFT || name[0] == 0 || !path_of(path, play->folder, name))
             return fate;
-        key pressed = ask_to_replace(play, path, name);
+        key pressed = ask_to_replace(play, question, path, name);
         if (pressed == PRESS_GONE)
             return IS_LEFT;
-        if (pressed == L'y') {
+        question->adds = pressed == L'a';
+        if (pressed == L'y' || pressed == L'r' || pressed == L'a') {
             snprintf(question->offered, LONGEST_NAME, "%s", name);
             return GOES_ON;
         }
@@ -139,6 +157,7 @@ enum fate answer_save(struct play *play) {
     static struct question question;
     char path[LONGEST_PATH];
     question.words = "Save to which file";
+    question.refusal = "saves nothing";
     question.ending = saves_end;
     question.count = saves_in(play->folder, &play->about, question.saves);
     snprintf(question.offered, LONGEST_NAME, "%s", play->save_name);
@@ -185,6 +204,7 @@ enum fate answer_restore(struct play *play) {
     static struct question question;
     char name[LONGEST_NAME], path[LONGEST_PATH];
     question.words = "Restore from which file";
+    question.refusal = "restores nothing";
     question.ending = saves_end;
     question.count = saves_in(play->folder, &play->about, question.saves);
     question.offered[0] = 0;
@@ -216,14 +236,16 @@ static enum fate open_transcript(struct play *play) {
     }
     text_cut(&play->text, text_end(&play->text) - length);
     question.words = "Transcript to which file";
+    question.refusal = "writes none";
     question.ending = transcripts_end;
+    question.may_add = true;
     question.count = 0;
     snprintf(question.offered, LONGEST_NAME, "%.*s%s", LONGEST_NAME - 8, play->stem, transcripts_end);
     enum fate fate = ask_new_path(play, &question, path);
     for (size_t i = 0; i < length; i++)
         text_add(&play->text, prompt[i], styles[i]);
     play->is_transcript_refused = path[0] == 0;
-    if (path[0] && !(play->transcript = fopen(path, "w"))) {
+    if (path[0] && !(play->transcript = fopen(path, question.adds ? "a" : "w"))) {
         notice(play, "[%s: %s]", path, strerror(errno));
         play->is_transcript_refused = true;
     }

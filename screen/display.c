@@ -271,14 +271,41 @@ static void draw_mark(const struct mark *mark) {
         move(LINES - 1, COLS - 1);
 }
 
-void display_table(const char *const *rows, size_t count, const char *last) {
+/* ---- a table */
+
+/* Draws a row of a table above some row of the screen, wrapped. Answers where the next one begins. */
+static int draw_table_row(const char *words, int at, int bottom) {
+    struct mark row;
+    read_mark(&row, words, LONGEST_MARK);
+    for (size_t i = 0, start = 0; i < (size_t)row.rows; start = row.ends[i++], at++)
+        if (at < bottom)
+            mvaddnwstr(at, 0, row.words + start, (int)(row.ends[i] - start));
+    return at;
+}
+
+/* How many rows of a table there is room for above some words: one at least. */
+static size_t rows_above(const char *const *rows, size_t count, const struct mark *mark) {
+    size_t fitting = 0;
+    for (int at = 0; fitting < count && (at = draw_table_row(rows[fitting], at, 0)) <= LINES - mark->rows;)
+        fitting++;
+    return fitting > 0 ? fitting : 1;
+}
+
+size_t display_table(const char *const *rows, size_t count, const char *more, const char *last) {
     struct mark mark;
     read_mark(&mark, last, LINES);
+    size_t shown = rows_above(rows, count, &mark);
+    if (shown < count) {
+        read_mark(&mark, more, LINES);
+        shown = rows_above(rows, count, &mark);
+    }
+    int at = 0;
     erase();
-    for (int i = 0; i < (int)count && i < LINES - mark.rows; i++)
-        mvaddnstr(i, 0, rows[i], COLS);
+    for (size_t i = 0; i < shown; i++)
+        at = draw_table_row(rows[i], at, LINES - mark.rows);
     draw_mark(&mark);
     refresh();
+    return shown;
 }
 
 /* ---- all of it */

@@ -27,8 +27,9 @@ int display_columns(void);
 
 void display_draw(const zkit *game, const struct text *text, const struct shown *shown);
 
-/* Draws rows of ASCII in place of all, and words in the last rows. */
-void display_table(const char *const *rows, size_t count, const char *last);
+/* Draws the rows of a table in place of all, as many as there is room for and one at least, and some words in the last
+ * rows: `last` if these are all. Answers how many they are. */
+size_t display_table(const char *const *rows, size_t count, const char *more, const char *last);
 
 /* The words on the screen, without a mark: how many characters. */
 size_t display_words(wchar_t *words, size_t most);

@@ -23,6 +23,9 @@ uint8_t *file_read(const char *path, size_t most, size_t *length);
 /* Writes a file, in place of what it was: beside it first, so that a crash leaves the old one or the new one. */
 bool file_write(const char *path, const uint8_t *bytes, size_t length);
 
+/* The same, for a file that nobody else may read. */
+bool file_write_private(const char *path, const uint8_t *bytes, size_t length);
+
 bool file_is_there(const char *path);
 
 /* Makes a folder, and those that it lies in. */

@@ -8,9 +8,9 @@
 #include <stdlib.h>
 #include <string.h>
 
-static const char mark[8] = "zkit.s1\n";
+static const char mark[8] = "zkit.s1\n", lines_mark[8] = "zkit.l1\n";
 
-enum { HEAD = 8 + 8 + 8 };
+enum { HEAD = 8 + 8 + 8, LINES_HEAD = 8 + 8 };
 
 /* FNV-1a of 64 bits: it tells stories apart, and is no protection. */
 static uint64_t sum_of(const uint8_t *bytes, size_t length) {
@@ -30,12 +30,13 @@ static bool state_folder(char folder[LONGEST_PATH]) {
     return length > 0 && length < LONGEST_PATH && folder_make(folder);
 }
 
-bool kept_path(char path[LONGEST_PATH], const zkit_story *about, const uint8_t *story, size_t length) {
+bool kept_path(char path[LONGEST_PATH], const zkit_story *about, const uint8_t *story, size_t length,
+               const char *ending) {
     char folder[LONGEST_PATH], name[80], serial[7] = "";
     for (int i = 0; i < 6; i++)
         serial[i] = isalnum(about->serial[i]) && about->serial[i] < 128 ? (char)about->serial[i] : '-';
-    snprintf(name, sizeof name, "%u-%s-%04x-%016llx.play", (unsigned)about->release, serial, (unsigned)about->checksum,
-             (unsigned long long)sum_of(story, length));
+    snprintf(name, sizeof name, "%u-%s-%04x-%016llx%s", (unsigned)about->release, serial, (unsigned)about->checksum,
+             (unsigned long long)sum_of(story, length), ending);
     return state_folder(folder) && path_of(path, folder, name);
 }
 
@@ -83,11 +84,52 @@ bool kept_parts(const uint8_t *bytes, size_t length, struct kept *kept) {
     return true;
 }
 
+/* What is shown for a character of a file: itself, if it can be. */
+static wchar_t shown_for(wchar_t character) {
+    return character != 0 && wcwidth(character) >= 0 ? character : L'?';
+}
+
 void kept_text(const struct kept *kept, struct text *text) {
     for (size_t i = 0; i < kept->text_length; i++) {
         const uint8_t *it = kept->text + 4 * i;
         wchar_t character = (wchar_t)number_at(it, 3);
-        bool is_shown = character == L'\n' || (character != 0 && wcwidth(character) >= 0);
-        text_add(text, is_shown ? character : L'?', it[3]);
+        text_add(text, character == L'\n' ? character : shown_for(character), it[3]);
     }
+}
+
+/* ---- lines, as UTF-8 behind a mark and their sum */
+
+uint8_t *kept_lines(const struct history *lines, size_t *length) {
+    uint8_t *bytes = malloc(LINES_HEAD + lines->count * (4 * LONGEST_LINE + 2));
+    if (!bytes)
+        return NULL;
+    *length = LINES_HEAD;
+    for (size_t i = 0; i < lines->count; i++) {
+        *length += bytes_of(lines->lines[i].at, lines->lines[i].length, (char *)bytes + *length);
+        bytes[(*length)++] = '\n';
+    }
+    memcpy(bytes, lines_mark, 8);
+    put_number(bytes + 8, sum_of(bytes + LINES_HEAD, *length - LINES_HEAD), 8);
+    return bytes;
+}
+
+static void add_kept_line(struct history *lines, const uint8_t *bytes, size_t length) {
+    struct line line;
+    line.length = wide_of((const char *)bytes, length, line.at, LONGEST_LINE);
+    for (size_t i = 0; i < line.length; i++)
+        line.at[i] = shown_for(line.at[i]);
+    history_add(lines, &line);
+}
+
+bool kept_history(const uint8_t *bytes, size_t length, struct history *lines) {
+    lines->count = 0;
+    if (length < LINES_HEAD || memcmp(bytes, lines_mark, 8) != 0
+        || number_at(bytes + 8, 8) != sum_of(bytes + LINES_HEAD, length - LINES_HEAD))
+        return false;
+    for (size_t start = LINES_HEAD, end = start; end < length; end++)
+        if (bytes[end] == '\n') {
+            add_kept_line(lines, bytes + start, end - start);
+            start = end + 1;
+        }
+    return true;
 }

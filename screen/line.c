@@ -6,8 +6,13 @@
 #include <string.h>
 #include <wctype.h>
 
+static bool is_newest(const struct history *history, const struct line *line) {
+    const struct line *newest = &history->lines[history->count > 0 ? history->count - 1 : 0];
+    return history->count > 0 && newest->length == line->length && wmemcmp(newest->at, line->at, line->length) == 0;
+}
+
 void history_add(struct history *history, const struct line *line) {
-    if (line->length == 0)
+    if (line->length == 0 || is_newest(history, line))
         return;
     if (history->count == MOST_LINES)
         memmove(history->lines, history->lines + 1, --history->count * sizeof *history->lines);

@@ -34,6 +34,7 @@ struct editor {
     bool is_for_story;      /* a key may end it that means something to the story */
 };
 
+/* Adds a line, if it is not empty and not the newest one once more. */
 void history_add(struct history *history, const struct line *line);
 
 void editor_begin(struct editor *editor, const struct history *history, size_t longest);

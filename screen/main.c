@@ -40,7 +40,9 @@ static const char help[] =
     "  --help          shows this\n"
     "  --version       shows the version\n"
     "\n"
-    "In a play, Alt-H or F1 shows the keys.\n";
+    "In a play, Alt-H or F1 shows the keys. The play goes on where you left off, and\n"
+    "Up brings back the lines of earlier plays: the folder zkit in $XDG_STATE_HOME,\n"
+    "or in ~/.local/state, keeps both.\n";
 
 static struct play play;
 
@@ -207,11 +209,13 @@ static uint32_t columns_for_story(void) {
 static void go_on_or_begin(void) {
     uint64_t seed = play.options.seed;
     key pressed = L'n';
+    find_kept(&play);
     if (open_kept(&play))
         pressed = ask(&play, "Go on where you left off? (y/n) ", "yn");
     if (pressed == L'y')
         return;
     play.options.seed = seed;
+    play.is_answered = false;
     play.options.columns = columns_for_story();
     if (pressed != L'n' || open_new(&play) != ZKIT_OPENED)
         play.is_left = true;
@@ -241,9 +245,10 @@ static int play_on_terminal(void) {
         fputs("zkit-screen: this takes a terminal; zkit play plays without one\n", stderr);
         return REFUSED;
     }
-    if (!terminal_open()) {
+    const char *refused = terminal_open();
+    if (refused) {
         const char *kind = getenv("TERM");
-        fprintf(stderr, "zkit-screen: the terminal %s is not known; zkit play plays here\n", kind ? kind : "(no TERM)");
+        fprintf(stderr, "zkit-screen: the terminal %s %s; zkit play plays here\n", kind ? kind : "(no TERM)", refused);
         return REFUSED;
     }
     go_on_or_begin();

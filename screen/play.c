@@ -16,7 +16,9 @@ static const struct line no_line;
 /* ---- leaving */
 
 enum fate ask_to_leave(struct play *play) {
-    key pressed = ask(play, "Leave the story? (y/n) ", "yn");
+    bool is_kept = play->kept[0] && !play->is_told_of_keeping;
+    const char *told = is_kept ? "Leave? You can go on later. (y/n) " : "Leave? This play is not kept. (y/n) ";
+    key pressed = ask(play, told, "yn");
     return pressed == L'y' || pressed == PRESS_GONE ? IS_LEFT : GOES_ON;
 }
 
@@ -56,25 +58,28 @@ static void take_text(struct play *play) {
     play->cursor = text_end(&play->text);
 }
 
-/* Shows a page of new text, and waits for a key. */
-static enum fate show_page(struct play *play) {
+key show_page(struct play *play) {
     play->is_paged = true;
     key pressed = play_key(play);
-    enum fate fate = pressed == PRESS_GONE ? IS_LEFT : GOES_ON;
-    if (pressed == PRESS_STOP || pressed == PRESS_ESCAPE)
-        fate = stop(play);
-    else
+    if (pressed != PRESS_STOP && pressed != PRESS_ESCAPE)
         play->seen = page_end(play);
     play->is_paged = false;
-    return fate;
+    return pressed;
 }
 
 /* Shows new text a page at a time. `is_back` tells whether the reader has gone back instead. */
 static enum fate show_pages(struct play *play, bool *is_back) {
     size_t states = play->state_count;
     enum fate fate = GOES_ON;
-    while (fate == GOES_ON && play->state_count == states && has_more(play))
-        fate = show_page(play);
+    while (fate == GOES_ON && play->state_count == states && has_more(play)) {
+        key pressed = show_page(play);
+        play->is_paged = true; /* the page stays while the reader is asked */
+        if (pressed == PRESS_STOP || pressed == PRESS_ESCAPE)
+            fate = stop(play);
+        else if (pressed == PRESS_GONE)
+            fate = IS_LEFT;
+        play->is_paged = false;
+    }
     *is_back = play->state_count != states;
     return fate;
 }
@@ -154,7 +159,7 @@ static bool give_line(struct play *play, const struct line *line, key pressed) {
         return false;
     play->seen = text_end(&play->text);
     play->keyed = 0;
-    history_add(&play->lines, line);
+    keep_line(play, line);
     note_answer(play, line);
     return true;
 }
@@ -170,11 +175,11 @@ static enum fate answer_line(struct play *play) {
             text_add_words(&play->text, "\n");
         if ((pressed == L'\n' || is_function_key(pressed)) && give_line(play, &editor.line, pressed))
             return GOES_ON;
+        if (pressed == PRESS_GONE || (pressed == PRESS_STOP && ask_to_leave(play) == IS_LEFT))
+            return IS_LEFT;
         text_cut(&play->text, start);
         if (is_function_key(pressed))
             editor_press(&editor, pressed);
-        if (pressed == PRESS_GONE || (pressed == PRESS_STOP && ask_to_leave(play) == IS_LEFT))
-            return IS_LEFT;
         if (pressed == PRESS_UNDO) {
             undo(play);
             return GOES_ON;

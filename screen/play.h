@@ -36,6 +36,7 @@ struct play {
     place erased;                /* and the story has erased that */
     bool is_paged;               /* a page from `seen` on is shown, and not the end of the text */
     bool is_left;                /* the reader has left before it began */
+    bool is_answered;            /* the reader has given an answer in this play, or it goes on from another time */
     bool is_busy;                /* the reader is told that the story runs */
     bool is_back;                /* earlier text is shown, from this row on: */
     place back;
@@ -54,7 +55,9 @@ struct play {
     FILE *transcript;
     bool is_transcript_refused;
     char kept[LONGEST_PATH];     /* the file that the play is kept in; empty, if there is none */
+    char kept_lines[LONGEST_PATH]; /* and that of the lines */
     bool is_told_of_keeping;
+    bool is_told_of_lines;
 };
 
 /* ---- view.c: what the reader sees */
@@ -86,8 +89,14 @@ void note_answer(struct play *play, const struct line *answer);
 /* Goes back to before the last answer; answers whether there is one. */
 bool go_back(struct play *play);
 
+/* Finds the files in which a play of this story and its lines are kept, and reads the lines. */
+void find_kept(struct play *play);
+
 /* Opens the play that was kept, or answers false. */
 bool open_kept(struct play *play);
+
+/* Adds a line to the history, here and in its file. */
+void keep_line(struct play *play, const struct line *line);
 
 /* Opens the story at its start, or answers why not. */
 uint32_t open_new(struct play *play);
@@ -106,6 +115,9 @@ enum fate take_transcript(struct play *play);
 
 /* Has a line edited at the end of the text. Answers the key that ended that: Enter, or one that means no change. */
 key edit(struct play *play, struct editor *editor);
+
+/* Shows a page of new text, and waits for a key. Each but Escape and Control-C goes on to the next page. */
+key show_page(struct play *play);
 
 /* Asks whether to leave. */
 enum fate ask_to_leave(struct play *play);

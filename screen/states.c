@@ -9,7 +9,8 @@
 enum {
     UNDO_BYTES = 65536, /* so many bytes of the story's own undo states go with a snapshot */
     KEPT_LINES = 200,   /* so many lines of the text are kept for the next time */
-    MOST_KEPT = 1 << 24
+    MOST_KEPT = 1 << 24,
+    MOST_LINES_KEPT = 1 << 20 /* more than the lines of a history can take */
 };
 
 static void drop_state(struct state *state) {
@@ -48,6 +49,24 @@ static void write_kept(struct play *play) {
     free(bytes);
 }
 
+static void tell_of_lines(struct play *play) {
+    if (!play->is_told_of_lines)
+        notice(play, "[Your lines are not kept: %s]", strerror(errno));
+    play->is_told_of_lines = true;
+}
+
+void keep_line(struct play *play, const struct line *line) {
+    size_t length;
+    history_add(&play->lines, line);
+    if (line->length == 0 || !play->kept_lines[0])
+        return;
+    errno = ENOMEM;
+    uint8_t *bytes = kept_lines(&play->lines, &length);
+    if (!bytes || !file_write_private(play->kept_lines, bytes, length))
+        tell_of_lines(play);
+    free(bytes);
+}
+
 void forget_kept(struct play *play) {
     if (play->kept[0])
         unlink(play->kept);
@@ -68,11 +87,13 @@ void keep_state(struct play *play) {
     play->now.length = length;
     play->now.end = text_end(&play->text);
     play->now.erased = play->erased;
-    if (play->kept[0])
+    /* one that has only begun leaves what was kept before, in case the reader has begun it by mistake */
+    if (play->kept[0] && play->is_answered)
         write_kept(play);
 }
 
 void note_answer(struct play *play, const struct line *answer) {
+    play->is_answered = true;
     if (!play->now.snapshot)
         return;
     if (play->state_count == MOST_STATES) {
@@ -126,16 +147,26 @@ uint32_t open_new(struct play *play) {
     return reason;
 }
 
+void find_kept(struct play *play) {
+    size_t length;
+    errno = ENOENT;
+    if (!kept_path(play->kept, &play->about, play->story, play->story_length, ".play")) {
+        play->kept[0] = 0;
+        tell_of_keeping(play);
+        return;
+    }
+    kept_path(play->kept_lines, &play->about, play->story, play->story_length, ".lines");
+    uint8_t *bytes = file_read(play->kept_lines, MOST_LINES_KEPT, &length);
+    if (bytes)
+        kept_history(bytes, length, &play->lines);
+    free(bytes);
+}
+
 bool open_kept(struct play *play) {
     struct kept kept;
     size_t length;
     uint32_t reason = ZKIT_NOT_A_SNAPSHOT;
     zkit *game = NULL;
-    errno = ENOENT;
-    if (!kept_path(play->kept, &play->about, play->story, play->story_length)) {
-        play->kept[0] = 0;
-        tell_of_keeping(play);
-    }
     uint8_t *bytes = play->kept[0] ? file_read(play->kept, MOST_KEPT, &length) : NULL;
     if (!bytes)
         return false;
@@ -146,6 +177,7 @@ bool open_kept(struct play *play) {
         replace_game(play, game);
         kept_text(&kept, &play->text);
         play->options.seed = kept.seed;
+        play->is_answered = true;
         play->seen = play->cursor = text_end(&play->text);
     } else {
         uint8_t words[100];

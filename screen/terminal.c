@@ -94,12 +94,24 @@ static void name_keys(void) {
     }
 }
 
-bool terminal_open(void) {
+/* Says why a terminal of this kind can't be taken, or null. */
+static const char *refusal(void) {
+    int status;
+    if (setupterm(NULL, STDOUT_FILENO, &status) != OK)
+        return "is not known";
+    const char *places = tigetstr("cup");
+    return places && places != (const char *)-1 ? NULL : "can't place a cursor";
+}
+
+const char *terminal_open(void) {
+    const char *refused = refusal();
+    if (refused)
+        return refused;
     tcgetattr(STDIN_FILENO, &before);
     take_signals();
     if (!newterm(NULL, stdout, stdin)) {
         sigprocmask(SIG_SETMASK, &outside, NULL);
-        return false;
+        return "is not known";
     }
     add_leaving("sgr0");
     add_leaving("cnorm");
@@ -112,7 +124,7 @@ bool terminal_open(void) {
     name_keys();
     timeout(KEY_WAIT);
     set_escdelay(100);
-    return true;
+    return NULL;
 }
 
 void terminal_close(void) {
@@ -165,7 +177,7 @@ static key named_key(wint_t code) {
     }
 }
 
-/* A key with Alt comes as Escape and the key. */
+/* What a key means with Alt. It comes as Escape and the key. */
 static key key_with_alt(wint_t character) {
     switch (towlower(character)) {
     case L'u': return PRESS_UNDO;
@@ -173,6 +185,48 @@ static key key_with_alt(wint_t character) {
     case L's': return PRESS_SEED;
     default: return PRESS_NONE;
     }
+}
+
+/* Skips the bytes of a key that is not known, or of what a terminal tells, as ESC [ 200 ~ before pasted text. */
+static void skip_rest(wint_t first) {
+    wint_t next = 0;
+    bool goes_on = first == L'[' || first == L'O';
+    timeout(KEY_WAIT);
+    while (goes_on && get_wch(&next) == OK)
+        goes_on = first == L'[' && (next < L'@' || next > L'~');
+}
+
+/* Has a key read once more, as the next one. */
+static void read_again(int kind, wint_t next) {
+    if (kind == KEY_CODE_YES)
+        ungetch((int)next);
+    else
+        unget_wch((wchar_t)next);
+}
+
+/* The meaning of what follows Escape. What comes with it at once is one key; what comes later was typed by hand, and is
+ * a key of its own if it means nothing with Alt. */
+static key key_after_escape(void) {
+    wint_t next;
+    timeout(0);
+    int kind = get_wch(&next);
+    bool is_typed = kind == ERR;
+    if (is_typed) {
+        timeout(ALT_WAIT);
+        kind = get_wch(&next);
+    }
+    key pressed = kind == OK ? key_with_alt(next) : PRESS_NONE;
+    if (kind == ERR || pressed != PRESS_NONE)
+        return kind == ERR ? PRESS_ESCAPE : pressed;
+    bool is_own = is_typed || next == 27 || (kind == KEY_CODE_YES && next == KEY_RESIZE);
+    if (is_own) {
+        read_again(kind, next);
+        return PRESS_ESCAPE;
+    }
+    if (kind == KEY_CODE_YES)
+        return named_key(next);
+    skip_rest(next);
+    return PRESS_NONE;
 }
 
 /* Looks, or waits, until there is input or a signal, and answers whether there is. */
@@ -192,7 +246,6 @@ static key suspend(void) {
 
 /* The meaning of a key that has come. Control-Z and Control-L are done here. */
 static key meaning(int came, wint_t character) {
-    wint_t next;
     if (came == KEY_CODE_YES)
         return named_key(character);
     if (character == 26)
@@ -202,10 +255,9 @@ static key meaning(int came, wint_t character) {
         return PRESS_REDRAW;
     }
     if (character == 27) {
-        timeout(ALT_WAIT);
-        int after = get_wch(&next);
+        key pressed = key_after_escape();
         timeout(KEY_WAIT);
-        return after == OK ? key_with_alt(next) : PRESS_ESCAPE;
+        return pressed;
     }
     return character >= L' ' && character != 127 && iswprint(character) ? (key)character : control_key(character);
 }

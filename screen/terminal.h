@@ -6,8 +6,8 @@
 
 #include "keys.h"
 
-/* Takes the terminal. Answers whether its kind is known. */
-bool terminal_open(void);
+/* Takes the terminal. Answers null, or words that say why it can't be taken. */
+const char *terminal_open(void);
 
 /* Gives it back as it was. */
 void terminal_close(void);

@@ -5,11 +5,10 @@
 #include <stdarg.h>
 #include <string.h>
 
-/* No row is wider than 40 columns. */
 static const char *const help[] = {
     "Enter      ends the line",
     "Up, Down   bring back earlier lines",
-    "Tab        completes a word of the screen",
+    "Tab        completes words on the screen",
     "Ctrl-A, E  go to the start, to the end",
     "Ctrl-U, K  erase what is before, behind",
     "Ctrl-W     erases the word before",
@@ -116,13 +115,18 @@ static void scroll(struct play *play, bool is_up) {
     play->is_back = play->back < shown.top;
 }
 
+/* Shows the keys, on a low screen a part of them at a time. Escape leaves the rest out. */
 static void show_help(struct play *play) {
     char words[80];
-    key pressed = PRESS_REDRAW;
+    size_t first = 0, count = sizeof help / sizeof *help;
     snprintf(words, sizeof words, "[seed %llu; press a key]", (unsigned long long)play->options.seed);
-    while (pressed == PRESS_REDRAW) {
-        display_table(help, sizeof help / sizeof *help, words);
-        pressed = terminal_key();
+    while (first < count) {
+        size_t shown = display_table(help + first, count - first, page_mark, words);
+        key pressed = terminal_key();
+        if (pressed == PRESS_ESCAPE || pressed == PRESS_STOP || pressed == PRESS_GONE)
+            return;
+        if (pressed != PRESS_REDRAW)
+            first += shown;
     }
 }
 

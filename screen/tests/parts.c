@@ -112,6 +112,14 @@ static void try_history(void) {
     history_add(&history, &line);
     TRY(history.count == 0);
     line.length = 1;
+    history_add(&history, &line);
+    history_add(&history, &line);
+    TRY(history.count == 1);
+    history_add(&history, &(struct line){L"b", 1});
+    history_add(&history, &(struct line){L"bb", 2});
+    history_add(&history, &line);
+    TRY(history.count == 4 && history.lines[3].at[0] == L'a');
+    history.count = 0;
     for (int i = 0; i < MOST_LINES + 3; i++) {
         line.at[0] = (wchar_t)(0x100 + i);
         history_add(&history, &line);
@@ -144,6 +152,19 @@ static void try_files(const char *folder) {
     TRY(!file_read(path, 4, &length) && !file_read(folder, 100, &length) && !file_read("/dev/null", 100, &length));
     TRY(folder_make(inner) && folder_make(inner) && !folder_make(path));
     TRY(path_of(path, folder, "nowhere/file") && !file_write(path, (const uint8_t *)"one", 3));
+}
+
+/* A file keeps its rights when it is replaced, but for one that nobody else may read. */
+static void try_rights(const char *folder) {
+    char path[LONGEST_PATH];
+    struct stat status;
+    umask(022);
+    TRY(path_of(path, folder, "rights") && file_write(path, (const uint8_t *)"one", 3));
+    TRY(stat(path, &status) == 0 && (status.st_mode & 0777) == 0644);
+    TRY(chmod(path, 0664) == 0 && file_write(path, (const uint8_t *)"two", 3));
+    TRY(stat(path, &status) == 0 && (status.st_mode & 0777) == 0664);
+    TRY(file_write_private(path, (const uint8_t *)"three", 5));
+    TRY(stat(path, &status) == 0 && (status.st_mode & 0777) == 0600 && status.st_size == 5);
 }
 
 /* Of 25 saved games the 20 newest are listed, the newest first, and those of one time by their names. */
@@ -207,6 +228,50 @@ static void try_kept(void) {
     free(bytes);
     text_close(&text);
     text_close(&again);
+}
+
+/* Says whether a history has so many lines, and the last one is this. */
+static bool has_lines(const struct history *lines, size_t count, const wchar_t *last) {
+    const struct line *it = &lines->lines[count > 0 ? count - 1 : 0];
+    size_t length = count > 0 ? it->length : 0;
+    return lines->count == count && length == wcslen(last) && wmemcmp(it->at, last, length) == 0;
+}
+
+/* Lines are found again, the longest ones too; a file of which a byte is missing or changed has none. */
+static void try_lines(void) {
+    static struct history lines, again;
+    struct line line = {.length = LONGEST_LINE};
+    size_t length;
+    for (int i = 0; i < LONGEST_LINE; i++)
+        line.at[i] = 0x1f600;
+    for (int i = 0; i < MOST_LINES; i++) {
+        line.at[7] = L'\U0001f600' + i;
+        history_add(&lines, &line);
+    }
+    uint8_t *bytes = kept_lines(&lines, &length);
+    TRY(bytes && length == 16 + MOST_LINES * (4 * LONGEST_LINE + 1) && kept_history(bytes, length, &again));
+    TRY(again.count == MOST_LINES && again.lines[0].length == LONGEST_LINE && again.lines[0].at[254] == 0x1f600);
+    free(bytes);
+    lines.count = 0;
+    bytes = kept_lines(&lines, &length);
+    TRY(bytes && kept_history(bytes, length, &again) && has_lines(&again, 0, L""));
+    free(bytes);
+    history_add(&lines, &(struct line){L"look", 4});
+    history_add(&lines, &(struct line){L"l\u00e4s \u20ac\033\177", 7});
+    bytes = kept_lines(&lines, &length);
+    TRY(bytes && kept_history(bytes, length, &again) && has_lines(&again, 2, L"l\u00e4s \u20ac??"));
+    for (size_t part = 0; part < length; part++) {
+        uint8_t *copy = malloc(part + 1);
+        memcpy(copy, bytes, part);
+        TRY(!kept_history(copy, part, &again) && has_lines(&again, 0, L""));
+        free(copy);
+        for (int change = 1; change < 256; change++) {
+            bytes[part] ^= (uint8_t)change;
+            TRY(!kept_history(bytes, length, &again) && has_lines(&again, 0, L""));
+            bytes[part] ^= (uint8_t)change;
+        }
+    }
+    free(bytes);
 }
 
 /* ---- rows of the upper window, from a game of one row */
@@ -310,8 +375,10 @@ int main(int count, char **words) {
     try_history();
     try_names();
     try_files(words[1]);
+    try_rights(words[1]);
     try_saves(words[1]);
     try_kept();
+    try_lines();
     try_wide();
     try_grid();
     printf("%d tries\n", tries);
