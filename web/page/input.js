@@ -1,5 +1,6 @@
 // What the reader types: a line with those before it, or a character.
 
+import { lineOf } from "./answers.js";
 import { at, field } from "./at.js";
 
 const line = field("line");
@@ -32,7 +33,8 @@ export class Input {
          * @type {string[]}
          */
         this.early = [];
-        form.addEventListener("submit", (event) => this.submit(event));
+        // (Enter in the line presses the button, also where a frame allows no forms)
+        at("enter").addEventListener("click", (event) => this.submit(event));
         line.addEventListener("input", () => this.takeCharacter());
         document.addEventListener("paste", (event) => this.paste(event));
         line.addEventListener("keydown", (event) => this.keyInLine(event));
@@ -71,7 +73,7 @@ export class Input {
      * @param {import("./answers.js").Answer[]} answers
      */
     remember(answers) {
-        this.lines = /** @type {string[]} */ (answers.filter((answer) => typeof answer === "string" && answer !== ""));
+        this.lines = /** @type {string[]} */ (answers.map(lineOf).filter((line) => line));
     }
 
     show() {
