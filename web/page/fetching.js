@@ -92,7 +92,10 @@ function orWords(promise, words) {
 export async function fetched(address) {
     const url = ownAddress(address);
     const name = nameOf(url);
-    const answer = await orWords(fetch(url.href), `${name} can't be fetched: no answer came, or it led to another site.`);
+    // (a frame that its site keeps apart has no origin)
+    const none = self.origin === "null" ? "no answer came, or this frame may not have it"
+        : "no answer came, or it led to another site";
+    const answer = await orWords(fetch(url.href), `${name} can't be fetched: ${none}.`);
     if (!answer.ok || !answer.body) {
         const words = answer.status === 404 ? "the site has no such file" : "the site refuses it";
         throw new NotFetched(`${name} can't be fetched: ${words} (status ${answer.status}).`);

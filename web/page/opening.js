@@ -65,7 +65,8 @@ function goesOn() {
  * @param {number} lines how many the own one has
  */
 function mayReplace(what, lines) {
-    const words = `It replaces your own play of this story, which has ${lines} lines.`;
+    const count = lines === 1 ? "1 line" : `${lines} lines`;
+    const words = `It replaces your own play of this story, which has ${count}.`;
     return agreed(`Show the ${what}?`, words, "Show it", "Keep mine");
 }
 
@@ -76,7 +77,8 @@ function mayReplace(what, lines) {
 function wordsOnLack({ name, bytes }) {
     const lacks = lacking(bytes);
     const all = bytes.length + lacks;
-    return lacks && `${name} is cut off: ${lacks.toLocaleString("en")} of its ${all.toLocaleString("en")} bytes are missing.`;
+    return lacks === 0 ? "" : `${name} is cut off: ${lacks.toLocaleString("en")} of its `
+        + `${all.toLocaleString("en")} bytes are missing.`;
 }
 
 export class Opening {

@@ -5,7 +5,7 @@ import { MENU, SCREEN, holds, pause } from "./page.mjs";
 const LEAST = 4.5;
 
 /** In the page: each text that is seen, with the contrast to its ground. */
-function contrastsInPage() {
+export function contrastsInPage() {
     const channels = (colour) => (colour.match(/[\d.]+/g) || []).map(Number);
     const linear = (value) => value <= 10.31475 ? value / 255 / 12.92 : ((value / 255 + 0.055) / 1.055) ** 2.4;
     const light = ([r, g, b]) => 0.2126 * linear(r) + 0.7152 * linear(g) + 0.0722 * linear(b);
@@ -89,7 +89,7 @@ export async function contrast(page) {
 }
 
 /** In the page: what can be used, with its role and its name. */
-function namesInPage() {
+export function namesInPage() {
     const textOf = (ids) => ids.split(" ").map((id) => document.getElementById(id)?.textContent.trim()).join(" ");
     const top = document.querySelector("dialog[open]") || document.body;
     const all = [...top.querySelectorAll("button, input, select, a, [role], dialog"), ...top === document.body ? [] : [top]];

@@ -5,8 +5,10 @@ import { writeFileSync } from "node:fs";
 import { contrast, named } from "./access.mjs";
 import { KEEPING, blorb, spoilInPage } from "./keeping.mjs";
 import { EXAMPLES, MENU, basename, holds, join, linesOf, native, pause, readFileSync, same, sameWithKeys } from "./page.mjs";
+import { OWN } from "./own.mjs";
 import { PERSON } from "./person.mjs";
 import { SCREENS } from "./screens.mjs";
+import { SITES } from "./sites.mjs";
 import { echoingKeys, readingKeys, telling } from "./stories.mjs";
 import { USING } from "./using.mjs";
 
@@ -38,6 +40,7 @@ async function starts(page) {
 }
 
 async function fetchesNothing(page) {
+    await page.fresh();
     const tries = await page.run(() => fetch("https://example.org/").then(() => "went out", () => "refused"));
     same(tries, "refused");
     const policy = await page.run(() => document.querySelector("meta[http-equiv]").content);
@@ -888,6 +891,8 @@ export const CASES = [
     ...USING,
     ...PERSON,
     ...SCREENS,
+    ...OWN,
+    ...SITES,
     ["360 pixels wide", narrow],
     ["contrast of all texts", contrast],
     ["roles and names", named],

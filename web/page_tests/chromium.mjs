@@ -129,9 +129,23 @@ export class Chromium {
         await this.call("Page.reload");
     }
 
+    /** Goes into the page's frame, which no other page may look into: what is run from now on runs there. */
+    async intoFrame() {
+        const { targetInfos } = await this.pipe.send("Target.getTargets");
+        const { targetId } = targetInfos.find(({ type }) => type === "iframe");
+        const { sessionId } = await this.pipe.send("Target.attachToTarget", { targetId, flatten: true });
+        this.inFrame = (method, params) => this.pipe.send(method, params, sessionId);
+    }
+
+    async outOfFrame() {
+        this.inFrame = null;
+    }
+
     async run(does, ...values) {
+        const call = this.inFrame || this.call;
         const expression = `(${does})(${values.map((value) => JSON.stringify(value)).join(",")})`;
-        const it = await this.call("Runtime.evaluate", { expression, awaitPromise: true, returnByValue: true, userGesture: true });
+        const it = await call("Runtime.evaluate",
+            { expression, awaitPromise: true, returnByValue: true, userGesture: true });
         if (it.exceptionDetails)
             throw new Error(it.exceptionDetails.exception?.description || it.exceptionDetails.text);
         return it.result.value;

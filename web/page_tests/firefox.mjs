@@ -140,6 +140,16 @@ export class Firefox {
         await this.wire.send("WebDriver:Refresh");
     }
 
+    /** Goes into the page's frame, which no other page may look into: what is run from now on runs there. */
+    async intoFrame() {
+        const { value } = await this.wire.send("WebDriver:FindElement", { using: "css selector", value: "iframe" });
+        await this.wire.send("WebDriver:SwitchToFrame", { element: value[ELEMENT] });
+    }
+
+    async outOfFrame() {
+        await this.wire.send("WebDriver:SwitchToFrame", { id: null });
+    }
+
     async run(does, ...values) {
         const script = `return (${does})(...arguments)`;
         return (await this.wire.send("WebDriver:ExecuteScript", { script, args: values })).value;

@@ -7,14 +7,16 @@ import { repeating } from "./stories.mjs";
 
 const Z5 = join(EXAMPLES, "lighthouse.z5");
 
+/** A chunk of a Blorb file. */
+export function chunk(name, data) {
+    const head = Buffer.alloc(8);
+    head.write(name, "latin1");
+    head.writeUInt32BE(data.length, 4);
+    return Buffer.concat([head, data, Buffer.alloc(data.length % 2)]);
+}
+
 /** A Blorb file around a story. */
 export function blorb(story, metadata = "") {
-    const chunk = (name, data) => {
-        const head = Buffer.alloc(8);
-        head.write(name, "latin1");
-        head.writeUInt32BE(data.length, 4);
-        return Buffer.concat([head, data, Buffer.alloc(data.length % 2)]);
-    };
     const index = Buffer.alloc(16);
     index.writeUInt32BE(1);
     index.write("Exec", 4, "latin1");

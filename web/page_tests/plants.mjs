@@ -43,7 +43,7 @@ async function refusalOf(browser, file, name, limit) {
     const errors = browser.errors().length;
     const run = async () => {
         // (other tests begin so by themselves)
-        if (name === "starts" || name === "fetches nothing")
+        if (name === "starts")
             await page.fresh();
         await does.get(name)(page);
     };
