@@ -68,7 +68,7 @@ export function aboutOwn(file) {
 }
 
 /** What no walkthrough types: comments, and what it asks of an answer. */
-const SET_APART = /^(#|!~?) /;
+const SET_APART = /^(# |#$|!~? )/;
 
 /** The seed and the lines of the author's walkthrough; null where there is none. */
 export function ownWalkthrough() {

@@ -222,7 +222,7 @@ async function statedByBlorb(page) {
 
 /** The walkthrough shows itself as a play: its comments and checks are not typed, keys are keys, and its seed counts. */
 async function walkthrough(page) {
-    const text = "# seed: 7\n# (of a test)\nroll\n! You\n!~ no\n\\# odd\n\nmenu\nn\n\nq\r\nroll\n";
+    const text = "# seed: 7\n#\n# (of a test)\nroll\n! You\n!~ no\n\\# odd\n\nmenu\nn\n\nq\r\nroll\n";
     const own = ownPage(page, { story: readFileSync(MENU), file: "menu.z5", title: "Hall", walkthrough: text });
     await own.fresh();
     await own.rests();
