@@ -178,13 +178,15 @@ export class Firefox {
 
     /** Clicks at a place by the mouse. */
     async mouse(x, y) {
-        const actions = [{ type: "pointerMove", x, y }, { type: "pointerDown", button: 0 }, { type: "pointerUp", button: 0 }];
+        const actions = [{ type: "pointerMove", x, y }, { type: "pointerDown", button: 0 },
+            { type: "pointerUp", button: 0 }];
         await this.wire.send("WebDriver:PerformActions", { actions: [{ type: "pointer", id: "mouse", actions }] });
     }
 
     /** Taps at a place by a finger. */
     async touch(x, y) {
-        const actions = [{ type: "pointerMove", x, y }, { type: "pointerDown", button: 0 }, { type: "pointerUp", button: 0 }];
+        const actions = [{ type: "pointerMove", x, y }, { type: "pointerDown", button: 0 },
+            { type: "pointerUp", button: 0 }];
         const finger = { type: "pointer", id: "finger", parameters: { pointerType: "touch" }, actions };
         await this.wire.send("WebDriver:PerformActions", { actions: [finger] });
     }

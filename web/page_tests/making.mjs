@@ -12,7 +12,8 @@ const escaped = (text) => text.replace(/&/g, "&amp;").replace(/</g, "&lt;").repl
 export function withParts(text, parts, title) {
     const all = Object.entries(parts).map(([name, content]) =>
         `<script type="text/plain" id="own-${name}">${Buffer.from(content).toString("base64")}</script>`);
-    return text.replace(EMPTY, () => all.join("")).replace("<title>zkit</title>", () => `<title>${escaped(title)}</title>`);
+    return text.replace(EMPTY, () => all.join("")).replace("<title>zkit</title>", () =>
+        `<title>${escaped(title)}</title>`);
 }
 
 export function textOf(page) {

@@ -16,7 +16,8 @@ const NAMED = { ...LAMP, title: "Salt & <i>Sky</i>", author: "Åse Berg" };
 const BLURB = "The lamp has gone out.\n\nNobody on the island\nknows why.\n";
 
 const told = (page, words) => page.until((it) => document.getElementById("told").textContent === it, words);
-const typedLines = () => [...document.querySelectorAll("#scroller .typed")].map((it) => it.textContent.trimEnd()).join();
+const typedLines = () =>
+    [...document.querySelectorAll("#scroller .typed")].map((it) => it.textContent.trimEnd()).join();
 const joined = (lines) => lines.map((line) => `${line}\n`).join("");
 const played = (story, lines, ...options) => native(["play", "--echo", ...options, story], joined(lines)).text;
 
@@ -48,7 +49,8 @@ function blorbWithCover(story, metadata, cover, number) {
     const first = 12 + 8 + 4 + 3 * 12;
     const starts = parts.map((_, i) => first + Buffer.concat(parts.slice(0, i)).length);
     const entry = (use, of, start) => Buffer.concat([Buffer.from(use), word(of), word(start)]);
-    const entries = [entry("Exec", 0, starts[0]), entry("Pict", number + 1, starts[1]), entry("Pict", number, starts[2])];
+    const entries = [entry("Exec", 0, starts[0]), entry("Pict", number + 1, starts[1]),
+        entry("Pict", number, starts[2])];
     const index = chunk("RIdx", Buffer.concat([word(3), ...entries]));
     const others = [chunk("Fspc", word(number)), chunk("IFmd", Buffer.from(metadata))];
     return chunk("FORM", Buffer.concat([Buffer.from("IFRS"), index, ...parts, ...others]));
@@ -73,7 +75,8 @@ async function opensAtOnce(page) {
         const { right, left, bottom } = document.getElementById(id).getBoundingClientRect();
         return { right, left, bottom };
     }));
-    holds(author.left >= title.right && Math.abs(author.bottom - title.bottom) < 9, "the author is not beside the title");
+    holds(author.left >= title.right && Math.abs(author.bottom - title.bottom) < 9,
+        "the author is not beside the title");
     same(await own.focus(), "line 0", "the focus and the caret");
     await own.say("look");
     same(await own.transcript(), played(Z5, ["look"]), "the transcript");
@@ -124,7 +127,8 @@ async function titlePage(page) {
     same(await own.focus(), "front-play -", "the focus");
     const texts = await Promise.all(["title", "author", "play"].map((part) => own.text(`front-${part}`)));
     same(texts.join("|"), "Salt & <i>Sky</i>|by Åse Berg|Play", "the title page");
-    const blurb = await own.run(() => [...document.querySelectorAll("#front-blurb p")].map((it) => it.innerText).join("|"));
+    const blurb = await own.run(() =>
+        [...document.querySelectorAll("#front-blurb p")].map((it) => it.innerText).join("|"));
     same(blurb, "The lamp has gone out.|Nobody on the island knows why.", "the paragraphs");
     const cover = await own.run(() => {
         const { alt, naturalWidth, naturalHeight } = document.getElementById("front-cover");
@@ -144,7 +148,8 @@ async function titlePage(page) {
     await own.reload();
     await own.rests();
     same(await own.run(typedLines), "look", "a reload goes on, without the title page");
-    for (const leave of [() => own.browser.press("Enter"), () => own.click("#front-play"), () => own.tap("#front-play")]) {
+    const leaves = [() => own.browser.press("Enter"), () => own.click("#front-play"), () => own.tap("#front-play")];
+    for (const leave of leaves) {
         await own.menu("show-front");
         same([await own.text("front-play"), await own.focus()].join(), "Continue,front-play -", "the title page again");
         await leave();
@@ -202,8 +207,10 @@ async function statedByBlorb(page) {
             .map((it) => it.textContent));
         return [...parts, await own.run(() => document.getElementById("front-cover").naturalWidth)].join("|");
     };
-    same(await seen(ownPage(page, { story: file, file: "salt.zblorb" })), "Salt|by A. & B.|One.|Two.|30", "what the file states");
-    const own = ownPage(page, { story: file, file: "salt.zblorb", title: "Sky", author: "C.", blurb: "Three.", cover: picture(50, 9) });
+    same(await seen(ownPage(page, { story: file, file: "salt.zblorb" })), "Salt|by A. & B.|One.|Two.|30",
+        "what the file states");
+    const own = ownPage(page,
+        { story: file, file: "salt.zblorb", title: "Sky", author: "C.", blurb: "Three.", cover: picture(50, 9) });
     same(await seen(own), "Sky|by C.|Three.|50", "what the author says");
     await own.browser.press("Enter");
     await own.rests();
@@ -212,7 +219,8 @@ async function statedByBlorb(page) {
     await page.drop(file, "salt.zblorb");
     await page.until(() => document.getElementById("title").title === "salt.zblorb");
     await page.rests();
-    same([await page.text("title"), await page.text("author")].join(), "Salt,by A. & B.", "the head of the page for all");
+    same([await page.text("title"), await page.text("author")].join(), "Salt,by A. & B.",
+        "the head of the page for all");
     await page.click("#undo");
     await page.menu("open");
     await page.click("#example");
@@ -220,7 +228,9 @@ async function statedByBlorb(page) {
     same(await page.isShown("author"), false, "whether a story without an author has one");
 }
 
-/** The walkthrough shows itself as a play: its comments and checks are not typed, keys are keys, and its seed counts. */
+/**
+ * The walkthrough shows itself as a play: its comments and checks are not typed, keys are keys, and its seed counts.
+ */
 async function walkthrough(page) {
     const text = "# seed: 7\n#\n# (of a test)\nroll\n! You\n!~ no\n\\# odd\n\nmenu\nn\n\nq\r\nroll\n";
     const own = ownPage(page, { story: readFileSync(MENU), file: "menu.z5", title: "Hall", walkthrough: text });
@@ -245,13 +255,15 @@ async function walkthrough(page) {
     const rolls = (it) => it.split("\n").filter((line) => /roll|\d/.test(line)).join();
     same(rolls(await own.transcript()), rolls(played(MENU, lines, "--seed", "7")), "what was rolled");
     await own.lines();
-    const list = await own.run(() => [...document.querySelectorAll("#line-list li")].map((it) => it.textContent).join());
+    const list = await own.run(() =>
+        [...document.querySelectorAll("#line-list li")].map((it) => it.textContent).join());
     same(list, "roll,# odd,(an empty line),menu,key n,key Enter,key q,roll", "the list of lines");
     await own.click("#line-list li:nth-child(2) button");
     await own.until(() => document.querySelectorAll("#scroller .typed").length === 1);
     await own.rests();
     await own.say("hello");
-    same(await own.transcript(), played(MENU, ["roll", "hello"], "--seed", "7"), "the play that goes on from its second line");
+    same(await own.transcript(), played(MENU, ["roll", "hello"], "--seed", "7"),
+        "the play that goes on from its second line");
 }
 
 /** A walkthrough that saves and restores does so by itself; a story that ends before the last line says so. */
@@ -270,7 +282,8 @@ async function walkthroughWithSaves(page) {
     const hash = await own.until(() => location.hash.startsWith("#play=") && location.hash);
     await own.fresh(hash);
     await told(own, "This is the shared play, letter by letter. Continue from here, or from any of its lines.");
-    const ends = ownPage(page, { story: readFileSync(MENU), file: "menu.z5", title: "Hall", walkthrough: "hello\nquit\nhello" });
+    const ends = ownPage(page,
+        { story: readFileSync(MENU), file: "menu.z5", title: "Hall", walkthrough: "hello\nquit\nhello" });
     await ends.fresh();
     await ends.rests();
     await ends.menu("walkthrough");
@@ -285,14 +298,16 @@ async function stopsWalkthrough(page) {
     await own.fresh();
     await own.rests();
     await own.menu("walkthrough");
-    await own.until(() => /^Repeating the play: [1-9]\d* of 99\.$/.test(document.getElementById("running-words").textContent));
+    await own.until(() =>
+        /^Repeating the play: [1-9]\d* of 99\.$/.test(document.getElementById("running-words").textContent));
     await own.click("#stop");
     await told(own, "You have stopped the walkthrough. Continue from here, or from any of its lines.");
     await own.rests();
     const typed = (await own.run(typedLines)).split(",");
     same(typed.join(), lines.slice(0, typed.length).join(), "the lines that were given");
     await own.lines();
-    same(await own.run(() => document.querySelectorAll("#line-list li").length), 100, "the lines, with the end of the list");
+    same(await own.run(() => document.querySelectorAll("#line-list li").length), 100,
+        "the lines, with the end of the list");
     await own.click(`#line-list li:nth-child(${typed.length + 2}) button`);
     await own.until((count) => document.querySelectorAll("#scroller .typed").length === count, typed.length + 1);
     await own.rests();
@@ -335,7 +350,7 @@ async function linksOfOwn(page) {
 
 /** What is damaged in the page has words, and so has a story that is none. */
 async function damagedOwn(page) {
-    const damage = (name, parts) => pageWith(page, withParts(textOf(page), parts, "Lamp")
+    const damage = (name, given) => pageWith(page, withParts(textOf(page), given, "Lamp")
         .replace(new RegExp(`(id="own-${name}">)[^<]*`), "$1*"));
     const words = (name) => `This page is damaged and can't be read as a whole: own-${name}.`;
     const parts = { ...NAMED, blurb: BLURB, cover: picture(9, 9), walkthrough: "look\n" };

@@ -1,7 +1,7 @@
 // Runs tests in pages that conformance/plant_web.py has changed, each up to the first test that refuses it.
 //
-// Each line of standard input is {"page": FILE, "cases": [[NAME, WAIT, LIMIT]..]}, with milliseconds. For each case a line
-// comes out: {"name": .., "refused": .., "came": [..], "ms": ..}, and after the last one {"end": true}.
+// Each line of standard input is {"page": FILE, "cases": [[NAME, WAIT, LIMIT]..]}, with milliseconds. For each case a
+// line comes out: {"name": .., "refused": .., "came": [..], "ms": ..}, and after the last one {"end": true}.
 
 import { createInterface } from "node:readline";
 import { CASES } from "./cases.mjs";

@@ -1,5 +1,5 @@
-// The page on a site: stories that it fetches by their addresses, and the page in a frame. What the site is asked for is
-// looked at, request by request.
+// The page on a site: stories that it fetches by their addresses, and the page in a frame. What the site is asked for
+// is looked at, request by request.
 
 import { pageAt, siteOf, textOf, withParts } from "./making.mjs";
 import { EXAMPLES, MENU, holds, join, native, pause, readFileSync, same } from "./page.mjs";
@@ -9,7 +9,8 @@ const STORY = readFileSync(Z5);
 const SHARED = "This is the shared play, letter by letter. Continue from here, or from any of its lines.";
 
 const told = (page, words) => page.until((it) => document.getElementById("told").textContent === it, words);
-const typedLines = () => [...document.querySelectorAll("#scroller .typed")].map((it) => it.textContent.trimEnd()).join();
+const typedLines = () =>
+    [...document.querySelectorAll("#scroller .typed")].map((it) => it.textContent.trimEnd()).join();
 const played = (lines) => native(["play", "--echo", Z5], lines.map((line) => `${line}\n`).join("")).text;
 
 /** Until a story of some file name is played. */
@@ -32,7 +33,7 @@ async function atSite(page, files, does) {
 
 /** A story is fetched by its address and opened at once; a reload goes on, and a link has the address too. */
 async function byAddress(page) {
-    await atSite(page, { "/tales/the lamp.z5": undefined, "/tales/the%20lamp.z5": STORY }, async (site, own) => {
+    await atSite(page, { "/tales/the%20lamp.z5": STORY }, async (site, own) => {
         await own.fresh();
         const address = "?story=tales%2Fthe+lamp.z5";
         site.asked.length = 0;
@@ -91,7 +92,8 @@ async function byHash(page) {
         same(await own.focus(), "line 0", "the focus and the caret");
         await own.run(() => { location.hash = "#line"; });
         await pause(300);
-        same(site.asked.filter((it) => it.endsWith(".z5")).join(), "/a.z5,/menu.z5,/a.z5", "the stories that were fetched");
+        same(site.asked.filter((it) => it.endsWith(".z5")).join(), "/a.z5,/menu.z5,/a.z5",
+            "the stories that were fetched");
     });
 }
 
@@ -150,7 +152,8 @@ async function strangeAnswers(page) {
         more();
     };
     const leads = (to) => (_, response) => response.writeHead(302, { Location: to }).end();
-    const files = { "/away.z5": leads(`${other.address}/a.z5`), "/near.z5": leads("/a.z5"), "/a.z5": STORY, "/long.z5": endless };
+    const files = { "/away.z5": leads(`${other.address}/a.z5`), "/near.z5": leads("/a.z5"), "/a.z5": STORY,
+        "/long.z5": endless };
     try {
         await atSite(page, files, async (site, own) => {
             await own.fresh("?story=away.z5");
@@ -308,9 +311,33 @@ async function savesInFrame(page) {
         await gone();
         await own.menu("menu-lines");
         await own.click("#copy-link");
-        await own.until(() => /^(Copied|Copy it from the address bar)$/.test(document.getElementById("copy-link").textContent));
+        await own.until(() =>
+            /^(Copied|Copy it from the address bar)$/.test(document.getElementById("copy-link").textContent));
         await own.leave();
         same(await own.told(), "", "what is told");
+    });
+}
+
+/** A frame that is kept apart from its site has a story of that only where the site gives it to any origin. */
+async function fetchesInFrame(page) {
+    const text = textOf(page).replace("<head>", () => `<head>${FAILS}`);
+    const open = (_, response) => response.writeHead(200, { "Access-Control-Allow-Origin": "*" }).end(STORY);
+    await inFrame(page, { "/page.html": text, "/a.z5": open }, "page.html?story=a.z5", async (own) => {
+        await plays(own, "a.z5");
+    });
+    const files = { "/page.html": text, "/a.z5": STORY };
+    await atSite(page, { ...files, "/around.html": `${AROUND}page.html?story=a.z5"></iframe>` }, async (site) => {
+        const own = pageAt(page, `${site.address}/around.html`);
+        await own.browser.go(own.url);
+        await own.until(() => document.querySelector("iframe"));
+        await pause(1000);
+        await own.browser.intoFrame();
+        try {
+            await told(own, "a.z5 can't be fetched: no answer came, or this frame may not have it.");
+            same(await own.run(() => window.failed.join()), "", "what has failed");
+        } finally {
+            await own.browser.outOfFrame();
+        }
     });
 }
 
@@ -336,5 +363,6 @@ export const SITES = [
     ["a page on a disk, and one of its own, fetch nothing", fetchesNothingElse],
     ["a frame without forms", framed],
     ["saved games in a frame that keeps nothing", savesInFrame],
+    ["a story by its address in a frame", fetchesInFrame],
     ["a page in no frame", notFramed],
 ];
