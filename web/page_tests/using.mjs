@@ -525,6 +525,60 @@ async function tabs(page) {
     }
 }
 
+/** What a part of the map is, and the tab that it leads to. */
+const PARTS = {
+    header: ["the fields that describe the story", "header"],
+    abbreviations: ["texts that other texts use", "abbreviations"],
+    objects: ["rooms, things and people, with their properties", "objects"],
+    globals: ["the story's global variables", ""],
+    static: ["data that the story can't change", ""], dictionary: ["the words that the story knows", "dictionary"],
+    high: ["routines and texts", "code"], start: ["the first instruction that runs", "code"],
+};
+
+/** The parts of the map say what they are, and lead to their listings: by the mouse, a finger and a key. */
+async function mapLeads(page) {
+    const map = async () => {
+        await page.click("#tab-map");
+        await page.until(() => document.querySelector(".legend button"));
+    };
+    const leads = async (tab, how) => {
+        await page.until((it) => document.querySelector("[aria-selected=true]").id === `tab-${it}`, tab);
+        await page.until(() => document.getElementById("panel").getAttribute("aria-busy") === "false");
+        same(await page.focus(), `tab-${tab} -`, `the focus after ${how}`);
+        holds(await page.run(() => document.querySelector("#listing .row-line")), `${tab} has no lines after ${how}`);
+    };
+    await page.fresh();
+    await page.open(Z5);
+    await page.click("#show-inside");
+    await map();
+    const titles = (selector) =>
+        page.run((it) => [...document.querySelectorAll(it)].map(({ title }) => title).join("|"), selector);
+    const wanted = Object.entries(PARTS).map(([name, [words]]) => `${name}: ${words}`).join("|");
+    same(await titles(".legend li"), wanted, "the titles in the legend");
+    same(await titles(".scale i"), wanted, "the titles in the bar");
+    for (const [i, [name, [, tab]]] of Object.entries(PARTS).entries()) {
+        const entry = `.legend li:nth-child(${i + 1})`;
+        const hasButton = await page.run((it) => document.querySelector(`${it} button`) !== null, entry);
+        same(hasButton, tab !== "", `whether ${name} leads to a listing`);
+        if (!hasButton)
+            continue;
+        await page.click(`${entry} button`);
+        await leads(tab, `a click on ${name}`);
+        await map();
+        await page.tap(`${entry} button`);
+        await leads(tab, `a tap on ${name}`);
+        await map();
+    }
+    await page.click(".scale i:nth-child(3)");
+    await leads("objects", "a click in the bar");
+    await map();
+    await page.browser.press("Tab");
+    while (await page.run(() => !document.activeElement.closest(".legend")))
+        await page.browser.press("Tab");
+    await page.browser.press("Enter");
+    await leads("header", "Enter in the legend");
+}
+
 /** What each finding means is what the notes of the program say. */
 async function meanings(page) {
     const story = readFileSync(Z5);
@@ -629,6 +683,7 @@ export const USING = [
     ["status lines, and rows in a narrow page", statusLines],
     ["titles and names of files", names],
     ["tabs by keys, and the sizes of the map", tabs],
+    ["the parts of the map lead to their listings", mapLeads],
     ["what findings mean", meanings],
     ["links in the code", codeLinks],
 ];
