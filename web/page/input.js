@@ -73,7 +73,7 @@ export class Input {
      * @param {import("./answers.js").Answer[]} answers
      */
     remember(answers) {
-        this.lines = /** @type {string[]} */ (answers.map(lineOf).filter((line) => line));
+        this.lines = /** @type {string[]} */ (answers.map(lineOf).filter((it) => it));
     }
 
     show() {
@@ -134,7 +134,7 @@ export class Input {
         const text = event.clipboardData ? event.clipboardData.getData("text/plain") : "";
         const [first, ...rest] = text.split(/\r\n|\r|\n/);
         const isHere = document.activeElement === line;
-        if (form.hidden || this.awaits === "character" || isHere && rest.length === 0
+        if (form.hidden || at("play").hidden || this.awaits === "character" || isHere && rest.length === 0
             || !isHere && isTaken(/** @type {HTMLElement} */ (event.target), 0))
             return;
         event.preventDefault();

@@ -145,8 +145,9 @@ function backToPlay() {
     showPlay();
     if (input.awaits)
         input.show();
-    else
-        at("over-again").focus();
+    // (of these at most one is shown)
+    for (const id of ["stop", "go-on", "over-again"])
+        at(id).focus();
 }
 
 function openLines() {

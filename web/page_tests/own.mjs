@@ -148,10 +148,12 @@ async function titlePage(page) {
     await own.reload();
     await own.rests();
     same(await own.run(typedLines), "look", "a reload goes on, without the title page");
+    same(await own.text("show-front"), "Title page", "the button in the menu");
     const leaves = [() => own.browser.press("Enter"), () => own.click("#front-play"), () => own.tap("#front-play")];
     for (const leave of leaves) {
         await own.menu("show-front");
         same([await own.text("front-play"), await own.focus()].join(), "Continue,front-play -", "the title page again");
+        await own.browser.paste("north\n");
         await leave();
         await own.shown("play");
         holds(!await own.isShown("front") && await own.isShown("head"), "the title page is still there");
@@ -162,6 +164,20 @@ async function titlePage(page) {
     await own.click("#asking-yes");
     await own.until(() => !document.querySelector("#scroller .typed"));
     same(await own.focus(), "line 0", "the focus after a restart");
+}
+
+/** After the end, the title page leads back to what stands in the place of the line. */
+async function titlePageAfterEnd(page) {
+    const ended = ownPage(page, { story: readFileSync(MENU), file: "menu.z5", title: "Hall", blurb: "A hall." });
+    await ended.fresh();
+    await ended.browser.press("Enter");
+    await ended.rests();
+    await ended.say("quit");
+    await ended.menu("show-front");
+    await ended.browser.press("Enter");
+    await ended.shown("over");
+    same(await ended.focus(), "over-again -", "the focus after the title page where the story has ended");
+    holds(!await ended.isShown("ask"), "a line is asked for after the end");
 }
 
 /** The title page on a phone: all of it fits, the button is seen with the cover, and each text can be read. */
@@ -232,11 +248,12 @@ async function statedByBlorb(page) {
  * The walkthrough shows itself as a play: its comments and checks are not typed, keys are keys, and its seed counts.
  */
 async function walkthrough(page) {
-    const text = "# seed: 7\n#\n# (of a test)\nroll\n! You\n!~ no\n\\# odd\n\nmenu\nn\n\nq\r\nroll\n";
+    const text = "\ufeff# seed: 7\n#\n# (of a test)\nroll\n! You\n!~ no\n\\# odd\n\nmenu\nn\n\nq\r\nroll\n";
     const own = ownPage(page, { story: readFileSync(MENU), file: "menu.z5", title: "Hall", walkthrough: text });
     await own.fresh();
     await own.rests();
     await own.say("hello");
+    same(await own.text("walkthrough"), "Walkthrough", "the button in the menu");
     await own.menu("walkthrough");
     await own.asks("Show the walkthrough?", "Show it", "Keep mine");
     same(await own.text("asking-words"), "It replaces your own play of this story, which has 1 line.");
@@ -416,6 +433,7 @@ export const OWN = [
     ["a page of its own keeps to the policy", staysWithinPolicy],
     ["a page of its own without a title", untitled],
     ["a title page", titlePage],
+    ["a title page after the end", titlePageAfterEnd],
     ["a title page on a phone", titlePageOnPhone],
     ["what a Blorb file states", statedByBlorb],
     ["an author's walkthrough", walkthrough],

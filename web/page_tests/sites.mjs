@@ -193,6 +193,8 @@ async function fetchesNothingElse(page) {
     await page.fresh("?story=a.z5");
     same(await page.told(), "A page on a disk can't fetch a story. Choose the file of a.z5 instead.");
     holds(await page.isShown("choose"), "no story can be chosen");
+    const says = "sends nothing, and fetches nothing but a story that its address names, from its own site alone";
+    holds((await page.text("welcome")).replace(/\s+/g, " ").includes(says), await page.text("welcome"));
     const text = withParts(textOf(page), { story: readFileSync(MENU), file: "menu.z5", title: "Hall" }, "Hall");
     await atSite(page, { "/own.html": text, "/a.z5": STORY }, async (site) => {
         const own = pageAt(page, `${site.address}/own.html`);

@@ -553,6 +553,8 @@ async function mapLeads(page) {
     await map();
     const titles = (selector) =>
         page.run((it) => [...document.querySelectorAll(it)].map(({ title }) => title).join("|"), selector);
+    same(await page.text("panel-words"),
+        "Where the parts of the story begin, to scale. Choose a part to go to its listing.");
     const wanted = Object.entries(PARTS).map(([name, [words]]) => `${name}: ${words}`).join("|");
     same(await titles(".legend li"), wanted, "the titles in the legend");
     same(await titles(".scale i"), wanted, "the titles in the bar");
