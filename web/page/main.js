@@ -217,6 +217,8 @@ function prepareDrop() {
     });
 }
 
+// (without scripts the page shows nothing but what it needs)
+at("welcome").hidden = isOwnPage();
 prepareWindows();
 prepareFrame();
 prepareLook();

@@ -413,7 +413,7 @@ export class Opening {
         const file = ownFile();
         const about = aboutOwn(file ? file.bytes : new Uint8Array());
         const { title, author } = about;
-        at("open").hidden = at("welcome").hidden = true;
+        at("open").hidden = true;
         fillFront(about, file ? file.name : "");
         const isStory = file !== null && await trying(file.name, async () => {
             const story = await this.storyIn(file.name, file.bytes);

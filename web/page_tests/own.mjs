@@ -407,15 +407,6 @@ async function damagedOwn(page) {
     holds((await cut.told()).startsWith("lighthouse.z5 is cut off: "), await cut.told());
 }
 
-/** Without JavaScript the page says what it needs. */
-async function withoutScripts(page) {
-    await page.fresh();
-    const words = "This page needs JavaScript to play a story. Allow it in the browser, and load the page again.";
-    const text = textOf(page).match(/<noscript>(.*?)<\/noscript>/s)[1];
-    same(text, `<p>${words}</p>`, "the words without JavaScript");
-    holds(!(await page.run(() => document.body.innerText)).includes(words), "they are shown with JavaScript");
-}
-
 /** A story without a title is called what it calls itself, or as its file. */
 async function untitled(page) {
     const own = ownPage(page, { story: telling("Once.\n>"), file: "tales/é.z5" }, "é");
@@ -441,5 +432,4 @@ export const OWN = [
     ["an author's walkthrough that is stopped", stopsWalkthrough],
     ["links of a page of its own", linksOfOwn],
     ["damage in a page of its own", damagedOwn],
-    ["a page without JavaScript", withoutScripts],
 ];

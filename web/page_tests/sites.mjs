@@ -343,6 +343,30 @@ async function fetchesInFrame(page) {
     });
 }
 
+/** Without JavaScript a page says what it needs, and shows nothing else to choose from. */
+async function withoutScripts(page) {
+    const parts = { story: STORY, file: "a.z5", title: "Lamp" };
+    const files = { "/own.html": withParts(textOf(page), parts, "Lamp") };
+    for (const name of ["own.html", "zkit.html"]) {
+        const around = `${AROUND.replace("allow-scripts", "")}${name}"></iframe>`;
+        await atSite(page, { ...files, "/around.html": around }, async (site) => {
+            const own = pageAt(page, `${site.address}/around.html`);
+            await own.browser.go(own.url);
+            await own.until(() => document.querySelector("iframe"));
+            await pause(1000);
+            await own.browser.intoFrame();
+            try {
+                const text = await own.run(() => document.querySelector("main").innerText.trim());
+                same(text, "This page needs JavaScript to play a story. Allow it in the browser, and load the page again.");
+            } finally {
+                await own.browser.outOfFrame();
+            }
+        });
+    }
+    await page.fresh();
+    holds(!(await page.run(() => document.body.innerText)).includes("JavaScript"), "the page asks for JavaScript");
+}
+
 /** A page that is in no frame tells nobody of its turns. */
 async function notFramed(page) {
     await page.fresh();
@@ -366,5 +390,6 @@ export const SITES = [
     ["a frame without forms", framed],
     ["saved games in a frame that keeps nothing", savesInFrame],
     ["a story by its address in a frame", fetchesInFrame],
+    ["a page without JavaScript", withoutScripts],
     ["a page in no frame", notFramed],
 ];
