@@ -357,7 +357,8 @@ async function withoutScripts(page) {
             await own.browser.intoFrame();
             try {
                 const text = await own.run(() => document.querySelector("main").innerText.trim());
-                same(text, "This page needs JavaScript to play a story. Allow it in the browser, and load the page again.");
+                same(text,
+                    "This page needs JavaScript to play a story. Allow it in the browser, and load the page again.");
             } finally {
                 await own.browser.outOfFrame();
             }
