@@ -1,5 +1,5 @@
 #!/usr/bin/env python3
-"""Puts the page, the module and the example into one file, which fetches nothing.
+"""Puts the page, the module and the example into one file.
 
 usage: make_page.py ZKIT.wasm OUT.html
 
@@ -22,6 +22,8 @@ EXAMPLE = WEB.parent / "examples" / "lighthouse.z5"
 HEADER = WEB.parent / "include" / "zkit.h"
 IMPORT = re.compile(r'^import \{([^}]*)\} from "(\.[^"]+)";\n', re.MULTILINE)
 EXPORT = re.compile(r"^export (?=(?:async function|function|class|const) (\w+))", re.MULTILINE)
+# What `zkit page` replaces, to make a page of its own for a story (README.md, "The parts of a page of its own").
+REPLACED = ['<script type="text/plain" id="own"></script>', "<title>zkit</title>"]
 LEFT_OVER = re.compile(r"^(?:import|export)\b.*", re.MULTILINE)
 
 
@@ -85,7 +87,7 @@ def page(module: bytes) -> str:
     style = (PAGE / "page.css").read_text(encoding="utf-8")
     script = bundle(PAGE / "main.js")
     policy = (f"default-src 'none'; script-src {digest(script)} 'wasm-unsafe-eval'; style-src {digest(style)}; "
-              "worker-src blob:; img-src data:; base-uri 'none'; form-action 'none'")
+              "connect-src 'self'; worker-src blob:; img-src data:; base-uri 'none'; form-action 'none'")
     parts = {
         "ZKIT_VERSION": version(),
         '<meta name="policy">': f'<meta http-equiv="Content-Security-Policy" content="{policy}">',
@@ -101,6 +103,9 @@ def page(module: bytes) -> str:
         if text.count(mark) != 1:
             raise SystemExit(f"make_page.py: index.html has not one {mark}")
         text = text.replace(mark, part)
+    for piece in REPLACED:
+        if text.count(piece) != 1:
+            raise SystemExit(f"make_page.py: the page has not one {piece}")
     return text
 
 

@@ -1,4 +1,4 @@
-// What all parts of the page use: its elements, files, and base64.
+// What all parts of the page use: its elements, questions, words, and files.
 
 /**
  * The page's element of an id.
@@ -151,15 +151,15 @@ export function stem(name) {
     return name.replace(/\.[^.]*$/, "") || "story";
 }
 
-/** @param {string} text */
-export function fromBase64(text) {
-    return Uint8Array.from(atob(text.trim()), (character) => character.charCodeAt(0));
-}
-
-/** @param {Uint8Array} bytes */
-export function toBase64(bytes) {
-    let text = "";
-    for (const byte of bytes)
-        text += String.fromCharCode(byte);
-    return btoa(text);
+/** Lets the buttons of windows close them by a click: a frame may allow no forms. */
+export function prepareWindows() {
+    for (const form of /** @type {NodeListOf<HTMLFormElement>} */ (document.querySelectorAll("form[method=dialog]")))
+        form.addEventListener("click", (event) => {
+            const button = /** @type {HTMLElement} */ (event.target).closest("button");
+            if (!button || button.type !== "submit")
+                return;
+            event.preventDefault();
+            if (form.reportValidity())
+                /** @type {HTMLDialogElement} */ (form.closest("dialog")).close(button.value);
+        });
 }

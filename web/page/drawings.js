@@ -1,6 +1,6 @@
 // What is drawn above a listing: the map to scale, and what findings mean.
 
-import { made } from "./at.js";
+import { made, madeButton } from "./at.js";
 
 /** Each with enough difference from its neighbours, on light and on dark. */
 const COLOURS = ["#7a8f5a", "#b4884a", "#4f7f92", "#9b5d5d", "#6d6aa0", "#4c8f78", "#a3749b", "#8a8172"];
@@ -25,11 +25,42 @@ const MEANINGS = {
 };
 
 /**
- * The file as a bar, with a legend.
+ * What begins at each place of the map, and the listing that shows it; "" for none.
+ * @type {Record<string, [string, string]>}
+ */
+const PARTS = {
+    header: ["the fields that describe the story", "header"],
+    abbreviations: ["texts that other texts use", "abbreviations"],
+    objects: ["rooms, things and people, with their properties", "objects"],
+    globals: ["the story's global variables", ""],
+    static: ["data that the story can't change", ""],
+    dictionary: ["the words that the story knows", "dictionary"],
+    high: ["routines and texts", "code"],
+    start: ["the first instruction that runs", "code"],
+};
+
+/**
+ * An entry of the legend: a button, where a listing shows the part.
+ * @param {string} words
+ * @param {string} name
+ * @param {(listing: string) => void} leadTo
+ */
+function entryOf(words, name, leadTo) {
+    const listing = PARTS[name]?.[1] || "";
+    const entry = made("li", "", listing ? "" : words);
+    if (listing)
+        entry.append(madeButton("", words, () => leadTo(listing)));
+    return entry;
+}
+
+/**
+ * The file as a bar, with a legend. What is pressed leads to its listing, in the bar too; the legend has it for the
+ * keyboard.
  * @param {string[]} lines
  * @param {number} length
+ * @param {(listing: string) => void} leadTo
  */
-export function drawMap(lines, length) {
+export function drawMap(lines, length, leadTo) {
     const starts = lines.map((line) => parseInt(line.slice(0, 5), 16));
     const scale = made("div", "scale");
     const legend = made("ul", "legend");
@@ -37,8 +68,11 @@ export function drawMap(lines, length) {
     lines.forEach((line, i) => {
         const end = i + 1 < lines.length ? starts[i + 1] : length;
         const size = Math.max(0, end - starts[i]);
-        const bar = made("i");
-        const entry = made("li", "", `${line.slice(6)}, ${size.toLocaleString()} ${size === 1 ? "byte" : "bytes"}`);
+        const [name, bar] = [line.slice(6), made("i")];
+        const words = `${name}, ${size.toLocaleString()} ${size === 1 ? "byte" : "bytes"}`;
+        const entry = entryOf(words, name, leadTo);
+        bar.title = entry.title = PARTS[name] ? `${name}: ${PARTS[name][0]}` : name;
+        bar.addEventListener("click", () => entry.querySelector("button")?.click());
         bar.style.left = `${100 * starts[i] / length}%`;
         bar.style.width = `${100 * size / length}%`;
         for (const element of [bar, entry])

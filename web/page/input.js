@@ -1,5 +1,6 @@
 // What the reader types: a line with those before it, or a character.
 
+import { lineOf } from "./answers.js";
 import { at, field } from "./at.js";
 
 const line = field("line");
@@ -32,7 +33,8 @@ export class Input {
          * @type {string[]}
          */
         this.early = [];
-        form.addEventListener("submit", (event) => this.submit(event));
+        // (Enter in the line presses the button, also where a frame allows no forms)
+        at("enter").addEventListener("click", (event) => this.submit(event));
         line.addEventListener("input", () => this.takeCharacter());
         document.addEventListener("paste", (event) => this.paste(event));
         line.addEventListener("keydown", (event) => this.keyInLine(event));
@@ -71,7 +73,7 @@ export class Input {
      * @param {import("./answers.js").Answer[]} answers
      */
     remember(answers) {
-        this.lines = /** @type {string[]} */ (answers.filter((answer) => typeof answer === "string" && answer !== ""));
+        this.lines = /** @type {string[]} */ (answers.map(lineOf).filter((it) => it));
     }
 
     show() {
@@ -132,7 +134,7 @@ export class Input {
         const text = event.clipboardData ? event.clipboardData.getData("text/plain") : "";
         const [first, ...rest] = text.split(/\r\n|\r|\n/);
         const isHere = document.activeElement === line;
-        if (form.hidden || this.awaits === "character" || isHere && rest.length === 0
+        if (form.hidden || at("play").hidden || this.awaits === "character" || isHere && rest.length === 0
             || !isHere && isTaken(/** @type {HTMLElement} */ (event.target), 0))
             return;
         event.preventDefault();

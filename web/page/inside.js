@@ -16,7 +16,7 @@ import { drawMap, drawMeanings } from "./drawings.js";
 const TABS = {
     findings: ["Check", "Results of the checks."],
     header: ["Header", "The fields at the start of the file."],
-    map: ["Map", "Where the parts of the story begin. The bar is the whole file, to scale."],
+    map: ["Map", "Where the parts of the story begin, to scale. Choose a part to go to its listing."],
     objects: ["Objects", "Each object with its links, its attributes, and its properties as number:length."],
     tree: ["Tree", "The object tree."],
     dictionary: ["Dictionary", "The words that the story knows, with their addresses."],
@@ -117,6 +117,15 @@ function goTo(line) {
     at("listing").focus({ preventScroll: true });
 }
 
+/**
+ * Shows a listing that something on another one leads to.
+ * @param {string} name
+ */
+function leadTo(name) {
+    show(name);
+    at(`tab-${name}`).focus();
+}
+
 /** What stands above a listing. */
 async function drawAbove() {
     const drawing = at("drawing");
@@ -124,7 +133,7 @@ async function drawAbove() {
     if (shown === "findings")
         drawing.append(drawMeanings(lines));
     if (shown === "map" && story)
-        drawing.append(...drawMap(lines, story.bytes.length));
+        drawing.append(...drawMap(lines, story.bytes.length, leadTo));
     drawing.hidden = drawing.childElementCount === 0;
     const ifid = shown === "header" ? await listed("ifid") : "";
     if (ifid)

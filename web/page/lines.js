@@ -1,6 +1,8 @@
 // The lines of a play: a list to go back by, and the link that shows the play to others.
 
+import { lineOf } from "./answers.js";
 import { at, closed, dialog, giveFile, made, madeButton, stem } from "./at.js";
+import { addressForLinks } from "./fetching.js";
 import { LONGEST_LINK, addressOf } from "./link.js";
 
 /** @typedef {import("./answers.js").Answer} Answer */
@@ -12,11 +14,12 @@ const KEYS = new Map([[10, "Enter"], [13, "Enter"], [32, "Space"]]);
  * @param {Answer} answer
  */
 function wordsOf(answer) {
-    if (typeof answer === "string")
-        return answer || "(an empty line)";
+    const line = lineOf(answer);
+    if (line !== null)
+        return line || "(an empty line)";
     if (typeof answer === "number")
         return `key ${KEYS.get(answer) || String.fromCodePoint(answer)}`;
-    return "undo" in answer ? "(Undo)" : null;
+    return typeof answer === "object" && "undo" in answer ? "(Undo)" : null;
 }
 
 /**
@@ -38,7 +41,7 @@ async function copied(text) {
  * @param {boolean} isLater
  * @param {() => void} does
  */
-function lineOf(words, isLater, does) {
+function entryOf(words, isLater, does) {
     const item = made("li", isLater ? "later" : "");
     item.append(madeButton("", words, () => {
         dialog("lines").close();
@@ -57,12 +60,12 @@ export async function showLines(play, goTo) {
     const all = [...shared.answers, ...play.later];
     const items = all.flatMap((answer, i) => {
         const words = wordsOf(answer);
-        return words === null ? [] : [lineOf(words, i >= shared.answers.length, () => goTo(all, i))];
+        return words === null ? [] : [entryOf(words, i >= shared.answers.length, () => goTo(all, i))];
     });
     if (play.later.length)
-        items.push(lineOf("(the end of the list)", true, () => goTo(all, all.length)));
+        items.push(entryOf("(the end of the list)", true, () => goTo(all, all.length)));
     at("line-list").replaceChildren(...items);
-    const address = location.href.replace(/#.*/, "") + await addressOf(shared);
+    const address = addressForLinks() + await addressOf(shared);
     const isShort = address.length <= LONGEST_LINK;
     at("copy-link").hidden = !isShort;
     at("copy-link").textContent = "Copy a link to this play";

@@ -2,7 +2,7 @@
 // answers give the same play, so nothing else is needed; `told` is the sum of the text, by which the page sees that it
 // is so.
 
-import { fromBase64, toBase64 } from "./at.js";
+import { allOf, fromBase64, toBase64 } from "./bytes.js";
 import { isWidth } from "./columns.js";
 
 /** @typedef {import("./answers.js").Answer} Answer */
@@ -23,26 +23,6 @@ const LAST_CHARACTER = 0x10ffff;
 const FRONT = "#play=";
 
 /**
- * All bytes of a stream, or null where they are too many.
- * @param {ReadableStream<Uint8Array>} stream
- */
-async function allOf(stream) {
-    const reader = stream.getReader();
-    /** @type {Uint8Array[]} */
-    const parts = [];
-    let length = 0;
-    for (;;) {
-        const { done, value } = await reader.read();
-        if (done)
-            return new Uint8Array(await new Blob(parts).arrayBuffer());
-        parts.push(value);
-        length += value.length;
-        if (length > LONGEST_PLAY)
-            return null;
-    }
-}
-
-/**
  * A stream that packs or unpacks; null where the browser has none.
  * @param {"CompressionStream" | "DecompressionStream"} name
  */
@@ -59,7 +39,7 @@ function packer(name) {
  * @param {any} through
  */
 function passed(bytes, through) {
-    return allOf(new Blob([bytes]).stream().pipeThrough(through));
+    return allOf(new Blob([bytes]).stream().pipeThrough(through), LONGEST_PLAY);
 }
 
 /** @param {Uint8Array} bytes */

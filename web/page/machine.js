@@ -1,6 +1,7 @@
 // The page's side of the worker that runs a story: calls that answer promises.
 
-import { at, fromBase64 } from "./at.js";
+import { at } from "./at.js";
+import { fromBase64 } from "./bytes.js";
 
 /** @typedef {import("./answers.js").Answer} Answer */
 /** @typedef {import("../zkit.js").Run} Run */
@@ -23,8 +24,8 @@ import { at, fromBase64 } from "./at.js";
  */
 
 /**
- * What came of an answer of a play that is repeated.
- * @typedef {Pick<Standing, "awaits" | "rows" | "box"> & {runs: Run[], script: string}} Turn
+ * What came of an answer of a play that is repeated; null before the first one.
+ * @typedef {Pick<Standing, "awaits" | "rows" | "box"> & {runs: Run[], script: string, answer: Answer | null}} Turn
  */
 /** @typedef {{version: number, release: number, checksum: number, serial: string, ifid: string}} About */
 
@@ -130,11 +131,12 @@ export class Machine {
     /**
      * Runs the story and gives it answers as far as they fit.
      * @param {Answer[]} answers
-     * @param {(turns: Turn[]) => void} onTurns takes what came before the first answer, and of each one
+     * @param {(turns: Turn[], given: number) => void} onTurns takes what came before the first answer, and of each one,
+     *     and how many were given
      * @returns {Promise<Standing & {given: number}>}
      */
     replay(answers, onTurns) {
-        this.onPart = ({ turns }) => onTurns(turns);
+        this.onPart = ({ turns, given }) => onTurns(turns, given);
         return this.call("replay", { answers });
     }
 

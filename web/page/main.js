@@ -1,6 +1,11 @@
 // The page: lets its parts work together.
 
-import { agreed, at, chosenFile, closeWindows, dialog, field, giveFile, stem, tell } from "./at.js";
+import {
+    agreed, at, chosenFile, closeWindows, dialog, field, giveFile, prepareWindows, stem, tell,
+} from "./at.js";
+import { storyAddress, withoutStory } from "./fetching.js";
+import { prepareFrame, tellParent } from "./frame.js";
+import { hideFront } from "./front.js";
 import { prepareInside, showInside } from "./inside.js";
 import { Input } from "./input.js";
 import { showLines } from "./lines.js";
@@ -9,6 +14,7 @@ import { Log } from "./log.js";
 import { prepareLook } from "./look.js";
 import { moduleBytes } from "./machine.js";
 import { Opening, example } from "./opening.js";
+import { isOwnPage } from "./own.js";
 import { Play } from "./play.js";
 import { keepPlay, keptPlay, seePlay } from "./resume.js";
 import { askRestore, askSave, prepareSaves, showSaves } from "./saves.js";
@@ -26,6 +32,7 @@ const play = new Play(log, screen, input, {
     restore: () => askRestore(ofPlay()),
     opened,
     changed,
+    turned,
 });
 const moduleSum = sumOf(moduleBytes());
 
@@ -42,15 +49,33 @@ function opened() {
     closeWindows();
     showTitle();
     showPlay();
+    // (a reload opens what is played, and not the story of the address)
+    if (storyAddress(location) && play.story && !opening.isFetched(play.story))
+        history.replaceState(null, "", withoutStory(location.href));
 }
 
 function showTitle() {
+    const author = play.story ? play.story.author : "";
     at("title").textContent = play.name();
     at("title").title = play.story ? play.story.name : "";
-    document.title = `${play.name()} · zkit`;
+    at("author").textContent = author ? `by ${author}` : "";
+    at("author").hidden = !author;
+    document.title = isOwnPage() ? play.name() : `${play.name()} · zkit`;
+}
+
+/** What the page around a frame is told of what a story awaits after a turn.
+ * @type {Record<string, "line" | "key" | "stopped">}
+ */
+const AWAITED = { line: "line", character: "key", stopped: "stopped" };
+
+/** @param {import("./machine.js").Standing} standing */
+function turned({ awaits }) {
+    if (AWAITED[awaits])
+        tellParent(play.reads(), screen.line(), AWAITED[awaits]);
 }
 
 function showPlay() {
+    hideFront();
     at("welcome").hidden = true;
     at("play").hidden = at("tools").hidden = false;
 }
@@ -116,6 +141,15 @@ function onClick(id, does) {
     });
 }
 
+function backToPlay() {
+    showPlay();
+    if (input.awaits)
+        input.show();
+    // (of these at most one is shown)
+    for (const id of ["stop", "go-on", "over-again"])
+        at(id).focus();
+}
+
 function openLines() {
     showLines(play, (answers, count) => opening.goTo(answers, count));
 }
@@ -133,10 +167,11 @@ function choose() {
 function prepareButtons() {
     onClick("choose", choose);
     onClick("open", () => opening.showFirst());
-    onClick("to-play", () => {
-        showPlay();
-        input.show();
-    });
+    onClick("to-play", backToPlay);
+    onClick("front-play", () => play.story ? backToPlay() : opening.startOwn());
+    onClick("show-front", () => opening.showFront());
+    onClick("walkthrough", () => opening.showWalkthrough());
+    onClick("open-play", choose);
     onClick("example", () => opening.open(example()));
     onClick("undo", () => play.undo());
     onClick("restart", () => opening.restart());
@@ -182,6 +217,10 @@ function prepareDrop() {
     });
 }
 
+// (without scripts the page shows nothing but what it needs)
+at("welcome").hidden = isOwnPage();
+prepareWindows();
+prepareFrame();
 prepareLook();
 prepareView();
 prepareSaves();

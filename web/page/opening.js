@@ -1,11 +1,16 @@
-// Opening: a story from a file, a play of a link, or what the reader had open before.
+// Opening: a story from a file or an address, the page's own story, a play of a link, or what the reader had open
+// before.
 
 import { isRead } from "./answers.js";
-import { agreed, at, bytesOf, field, fromBase64, made, madeButton, tell } from "./at.js";
+import { agreed, at, bytesOf, field, made, madeButton, tell } from "./at.js";
+import { fromBase64 } from "./bytes.js";
 import { USUAL, columnsFor } from "./columns.js";
-import { lacking, titleOfBlorb, wordsOnFile } from "./kinds.js";
+import { NotFetched, fetched, storyAddress } from "./fetching.js";
+import { fillFront, hasFront, showFront } from "./front.js";
+import { lacking, statedIn, wordsOnFile } from "./kinds.js";
 import { isLink, playAt, playOf } from "./link.js";
 import { NotOpened } from "./machine.js";
+import { aboutOwn, isOwnPage, ownFile, ownWalkthrough, wordsOnDamage } from "./own.js";
 import { Left } from "./play.js";
 import { allPlays, keepStory, keptPlay, lastPlay, seePlay, storyOf, storyOfPlay, tidy } from "./resume.js";
 import { sumOf } from "./sums.js";
@@ -55,13 +60,25 @@ function goesOn() {
 }
 
 /**
- * Whether the reader agrees that the play of a link takes the place of an own one.
- * @param {import("./resume.js").Kept} own
+ * Whether the reader agrees that another play takes the place of an own one.
+ * @param {string} what
+ * @param {number} lines how many the own one has
  */
-function mayReplace(own) {
-    const lines = own.answers.filter(isRead).length;
-    const words = `It replaces your own play of this story, which has ${lines} lines.`;
-    return agreed("Show the shared play?", words, "Show it", "Keep mine");
+function mayReplace(what, lines) {
+    const count = lines === 1 ? "1 line" : `${lines} lines`;
+    const words = `It replaces your own play of this story, which has ${count}.`;
+    return agreed(`Show the ${what}?`, words, "Show it", "Keep mine");
+}
+
+/**
+ * How much a story lacks that was cut off, in words; "" for a whole one.
+ * @param {StoryFile} story
+ */
+function wordsOnLack({ name, bytes }) {
+    const lacks = lacking(bytes);
+    const all = bytes.length + lacks;
+    return lacks === 0 ? "" : `${name} is cut off: ${lacks.toLocaleString("en")} of its `
+        + `${all.toLocaleString("en")} bytes are missing.`;
 }
 
 export class Opening {
@@ -79,6 +96,16 @@ export class Opening {
          * @type {Shared | null}
          */
         this.awaited = null;
+        /**
+         * The story that was fetched last, with its address.
+         * @type {{address: string, story: StoryFile} | null}
+         */
+        this.fetched = null;
+        /**
+         * The story of a page of its own, with its IFID.
+         * @type {(StoryFile & {ifid: string}) | null}
+         */
+        this.own = null;
     }
 
     /**
@@ -167,20 +194,36 @@ export class Opening {
         const shared = bytes[0] === 0x7b ? playOf(new TextDecoder().decode(bytes)) : null;
         if (shared) {
             await this.offer(shared, file.name);
-            return;
+        } else if (isOwnPage()) {
+            tell(`${file.name}: this page has its own story, and opens only plays of it.`, true);
+        } else {
+            await trying(file.name, async () => {
+                const story = await this.storyIn(file.name, bytes);
+                if (story)
+                    await this.openWhole(story);
+            });
         }
-        const words = wordsOnFile(bytes);
+    }
+
+    /**
+     * The story that a file has, a Blorb file or its own; null where there is none, and why is told.
+     * @param {string} name
+     * @param {Uint8Array} file
+     * @returns {Promise<StoryFile | null>}
+     */
+    async storyIn(name, file) {
+        const words = wordsOnFile(file);
         if (words) {
-            tell(`${file.name}: ${words}.`, true);
-            return;
+            tell(`${name}: ${words}.`, true);
+            return null;
         }
-        await trying(file.name, async () => {
-            const story = await this.play.storyIn(bytes);
-            if (story)
-                await this.openWhole({ name: file.name, title: titleOfBlorb(bytes), bytes: story });
-            else
-                tell(`${file.name}: this Blorb file contains no story, or it was cut off.`, true);
-        });
+        const bytes = await this.play.storyIn(file);
+        if (!bytes) {
+            tell(`${name}: this Blorb file contains no story, or it was cut off.`, true);
+            return null;
+        }
+        const { title, author } = statedIn(file);
+        return { name, bytes, title, author };
     }
 
     /**
@@ -188,31 +231,58 @@ export class Opening {
      * @param {StoryFile} story
      */
     async openWhole(story) {
-        const [has, lacks] = [story.bytes.length, lacking(story.bytes)];
-        const words = `${story.name} is cut off: ${lacks.toLocaleString("en")} of its `
-            + `${(has + lacks).toLocaleString("en")} bytes are missing.`;
-        if (lacks && this.play.story && !await agreed("Play a story that is cut off?", words, "Play it", "No"))
+        const words = wordsOnLack(story);
+        if (words && this.play.story && !await agreed("Play a story that is cut off?", words, "Play it", "No"))
             return;
         await this.open(story);
-        if (lacks && this.play.story && this.play.story.bytes === story.bytes)
+        if (words && this.play.story && this.play.story.bytes === story.bytes)
             tell(words, true);
     }
 
     /**
-     * Shows a play of a link or a file, if its story is here; else asks for that. Where it is not shown, says why.
+     * Shows a play of a link or a file, if its story is here; else asks for that. Where it is not shown, says why, and
+     * answers no.
      * @param {Shared | string} shared
      * @param {string} name
      */
     async offer(shared, name) {
-        if (typeof shared === "string") {
-            tell(`${name}: this play can't be shown: ${shared}.`, true);
-            return;
+        const words = typeof shared === "string" ? shared : this.wordsOnOther(shared);
+        if (typeof shared === "string" || words) {
+            tell(`${name}: this play can't be shown: ${words}.`, true);
+            return false;
         }
-        const story = shared.ifid === EXAMPLE.ifid ? example() : await storyOf(shared.ifid);
-        if (story) {
+        const story = await this.storyOfShared(shared);
+        if (story)
             await this.showShared(shared, story);
-            return;
-        }
+        else
+            this.awaitStory(shared);
+        return true;
+    }
+
+    /**
+     * Why a page with its own story does not show a play: it is of another one. "" where it may.
+     * @param {Shared} shared
+     */
+    wordsOnOther({ ifid }) {
+        return isOwnPage() && ifid !== this.own?.ifid ? `it is of another story, whose IFID is ${ifid}` : "";
+    }
+
+    /**
+     * The story of a shared play, if it is here.
+     * @param {Shared} shared
+     * @returns {Promise<StoryFile | null>}
+     */
+    async storyOfShared({ ifid }) {
+        if (this.own)
+            return this.own;
+        return ifid === EXAMPLE.ifid ? example() : storyOf(ifid);
+    }
+
+    /**
+     * Asks for the story of a shared play.
+     * @param {Shared} shared
+     */
+    awaitStory(shared) {
         this.awaited = shared;
         const lines = shared.answers.filter(isRead).length;
         const words = `This is a play of ${shared.name}, ${lines} lines long. `
@@ -231,7 +301,7 @@ export class Opening {
     async showShared(shared, story) {
         const own = await keptPlay(sumOf(story.bytes));
         const isInIt = own && JSON.stringify(shared.answers).startsWith(JSON.stringify(own.answers).slice(0, -1));
-        if (own && !isInIt && !await mayReplace(own)) {
+        if (own && !isInIt && !await mayReplace("shared play", own.answers.filter(isRead).length)) {
             if (!this.play.story)
                 await this.goOn(story, own);
             return;
@@ -245,17 +315,167 @@ export class Opening {
             tell("The story's text is not the same as in the shared play. Is this the right story file?", true);
     }
 
-    /** Shows what the page begins with: the play of its address, or the last one, if there is one. */
+    /** Shows what the page begins with: its own story, what its address names, or the last play, if there is one. */
     async begin() {
-        addEventListener("hashchange", () => this.openLink());
+        addEventListener("hashchange", () => this.openAddress());
         field("seed").value = SEED;
-        if (await this.openLink())
+        if (isOwnPage()) {
+            await this.beginOwn();
+            return;
+        }
+        const address = storyAddress(location);
+        const isShown = address ? await this.openFetched(address) : await this.openLink();
+        if (isShown)
             return;
         const last = await lastPlay();
         if (last)
             await this.goOn(last.story, last.play);
         else
             await this.showFirst();
+    }
+
+    /** Shows what has come into the page's address: a play, or the address of a story. */
+    async openAddress() {
+        const address = location.hash.startsWith("#story=") && !isOwnPage() ? storyAddress(location) : "";
+        await (address ? this.openFetched(address) : this.openLink());
+    }
+
+    /**
+     * Fetches a story and opens it, with the play that the page's address may have too.
+     * @param {string} address
+     */
+    async openFetched(address) {
+        if (!this.play.story)
+            await this.showFirst();
+        tell("");
+        const link = await this.takeLink();
+        if (typeof link === "string")
+            await this.offer(link, "The link");
+        const [words, shared] = [at("told").textContent, typeof link === "string" ? null : link];
+        const { round } = this.play;
+        const it = await this.fetch(address);
+        if (it && round === this.play.round) {
+            this.awaited = shared;
+            await (shared ? this.openWhole(it.story) : this.openAtOnce(it.story));
+        } else if (shared && round === this.play.round) {
+            await this.offer(shared, "The link");
+        }
+        if (words)
+            tell(words, true);
+        return true;
+    }
+
+    /**
+     * Fetches a story by its address; null where that is not possible, and why is told.
+     * @param {string} address
+     * @returns {Promise<{story: StoryFile} | null>}
+     */
+    async fetch(address) {
+        this.fetched = null;
+        try {
+            tell("Fetching the story…");
+            const { name, bytes } = await fetched(address);
+            tell("");
+            await trying(name, async () => {
+                const story = await this.storyIn(name, bytes);
+                this.fetched = story && { address, story };
+            });
+        } catch (error) {
+            if (!(error instanceof NotFetched))
+                throw error;
+            tell(error.message, true);
+        }
+        return this.fetched;
+    }
+
+    /**
+     * Whether a story is the one that was fetched last.
+     * @param {StoryFile} story
+     */
+    isFetched(story) {
+        return this.fetched !== null && this.fetched.story.bytes === story.bytes;
+    }
+
+    /**
+     * Opens a story where the reader was in it before, or at its start, and asks nothing.
+     * @param {StoryFile} story
+     */
+    async openAtOnce(story) {
+        const before = await keptPlay(sumOf(story.bytes));
+        if (before && before.answers.length)
+            await trying(story.name, () => this.goOn(story, before));
+        else
+            await this.openWhole(story);
+    }
+
+    /** Begins with the page's own story: with the play of its address, where the reader was before, or at its start. */
+    async beginOwn() {
+        const file = ownFile();
+        const about = aboutOwn(file ? file.bytes : new Uint8Array());
+        const { title, author } = about;
+        at("open").hidden = true;
+        fillFront(about, file ? file.name : "");
+        const isStory = file !== null && await trying(file.name, async () => {
+            const story = await this.storyIn(file.name, file.bytes);
+            if (story)
+                this.own = { ...story, title, author, ifid: await this.play.ifidOf(story.bytes) };
+        });
+        if (isStory && this.own)
+            await this.openOwn(this.own, hasFront(about));
+        else
+            showFront("");
+        if (wordsOnDamage())
+            tell(wordsOnDamage(), true);
+    }
+
+    /**
+     * @param {StoryFile} own
+     * @param {boolean} hasTitlePage
+     */
+    async openOwn(own, hasTitlePage) {
+        at("open-play").hidden = false;
+        at("show-front").hidden = !hasTitlePage;
+        at("walkthrough").hidden = ownWalkthrough() === null;
+        at("open").autofocus = false;
+        at(hasTitlePage ? "show-front" : "restart").autofocus = true;
+        if (await this.openLink())
+            return;
+        const words = at("told").textContent || wordsOnLack(own);
+        const before = await keptPlay(sumOf(own.bytes));
+        if (hasTitlePage && !(before && before.answers.length))
+            showFront("Play");
+        else
+            await this.openAtOnce(own);
+        if (words)
+            tell(words, true);
+    }
+
+    /** Begins the page's own story, whose title page was shown. */
+    async startOwn() {
+        if (this.own)
+            await this.openAtOnce(this.own);
+    }
+
+    /** Shows the title page again. */
+    showFront() {
+        showFront("Continue");
+    }
+
+    /** Shows the walkthrough that the author has put into the page, as a play of a link is shown. */
+    async showWalkthrough() {
+        const [story, walkthrough, lines] = [this.own, ownWalkthrough(), this.play.reads()];
+        if (!story || !walkthrough || lines > 0 && !await mayReplace("walkthrough", lines))
+            return;
+        field("seed").value = walkthrough.seed || SEED;
+        if (!await this.start(story, walkthrough.lines.map((typed) => ({ typed })), seed()))
+            return;
+        const { left, isHalted } = this.play;
+        const count = walkthrough.lines.length;
+        if (left > 0 && !isHalted)
+            tell(`The story took only ${count - left} of the walkthrough's ${count} lines.`, true);
+        else
+            tell(`${left > 0 ? "You have stopped the walkthrough" : "This is the walkthrough"}. `
+                + "Continue from here, or from any of its lines.");
     }
 
     /** Shows the first page, with the stories that were played here. */
@@ -289,17 +509,21 @@ export class Opening {
             tell("The story of this play is no longer here. Choose its file.", true);
     }
 
-    /** Shows the play that is in the page's address, and takes it from there. */
-    async openLink() {
+    /** Takes the play out of the page's address; null where there is none, or why it is not shown was told. */
+    async takeLink() {
         if (!isLink(location.hash))
-            return false;
+            return null;
         const shared = await playAt(location.hash);
         history.replaceState(null, "", location.href.replace(/#.*/, ""));
-        if (shared)
-            await this.offer(shared, "The link");
-        else
+        if (!shared)
             tell("The link can't be read: it is cut off, or this browser is too old for it.", true);
-        return shared !== null && typeof shared !== "string";
+        return shared;
+    }
+
+    /** Shows the play that is in the page's address, and answers whether it is shown, or its story asked for. */
+    async openLink() {
+        const shared = await this.takeLink();
+        return shared !== null && await this.offer(shared, "The link");
     }
 
     async restart() {

@@ -1,9 +1,10 @@
 // A play: the story that runs, what was answered, and the ways back. What is answered is recorded, since the same
 // answers give the same play: that is what a link has, and how the reader goes back to any line.
 
-import { agreed, at, speak, tell, toBase64 } from "./at.js";
+import { agreed, at, speak, tell } from "./at.js";
 import { isRead } from "./answers.js";
 import { hideOver, showOver, showPaused, showRunning, wordsOfEnd } from "./bars.js";
+import { toBase64 } from "./bytes.js";
 import { USUAL } from "./columns.js";
 import { Machine, Trapped } from "./machine.js";
 import { boxText } from "./screen.js";
@@ -14,7 +15,7 @@ import { sumOf } from "./sums.js";
 /** @typedef {import("./machine.js").Standing} Standing */
 /** @typedef {import("./machine.js").About} About */
 /** @typedef {import("./resume.js").Kept} Kept */
-/** @typedef {{name: string, bytes: Uint8Array, title?: string}} File */
+/** @typedef {{name: string, bytes: Uint8Array, title?: string, author?: string}} File */
 
 /**
  * A place to go back to: how all stood at a read.
@@ -33,6 +34,7 @@ import { sumOf } from "./sums.js";
  * @property {() => Promise<Uint8Array | null>} restore
  * @property {() => void} opened
  * @property {() => void} changed
+ * @property {(standing: Standing) => void} turned
  */
 
 /** The reader can stop a story at any time, so it may run for longer than `zkit play` lets it by itself. */
@@ -95,6 +97,8 @@ export class Play {
         this.isBusy = false;
         /** Whether the reader has stopped what is repeated. */
         this.isHalted = false;
+        /** How many answers of what was repeated last the story was not given. */
+        this.left = 0;
         /**
          * The answers that came after the one that was gone back to.
          * @type {Answer[]}
@@ -514,16 +518,17 @@ export class Play {
     /** @param {Answer[]} answers */
     async repeat(answers) {
         const [machine, round, began] = [/** @type {Machine} */ (this.machine), this.round, Date.now()];
-        let turns = -1;
         this.rest();
         this.isHalted = false;
         this.log.isStill = true;
-        const { given, ...standing } = await this.unlessLeft(machine.replay(answers, (parts) => {
-            for (const part of round === this.round ? parts : [])
-                this.repeated(round, answers[turns++], part);
-            if (round === this.round && Date.now() - began > SOON)
-                showRunning(`Repeating the play: ${turns} of ${answers.length}.`);
+        const { given, ...standing } = await this.unlessLeft(machine.replay(answers, (turns, count) => {
+            if (round !== this.round)
+                return;
+            turns.forEach((turn) => this.repeated(round, turn));
+            if (Date.now() - began > SOON)
+                showRunning(`Repeating the play: ${count} of ${answers.length}.`);
         }));
+        this.left = answers.length - given;
         if (this.isHalted)
             this.later = [...answers.slice(given), ...this.later];
         showRunning("");
@@ -533,13 +538,12 @@ export class Play {
     /**
      * Takes an answer that was given again, if any, and what came of it.
      * @param {number} round
-     * @param {Answer | undefined} answer
      * @param {import("./machine.js").Turn} turn
      */
-    repeated(round, answer, { runs, script, ...turn }) {
-        if (answer !== undefined && isRead(answer))
+    repeated(round, { runs, script, answer, ...turn }) {
+        if (answer !== null && isRead(answer))
             this.note(answer);
-        else if (answer !== undefined)
+        else if (answer !== null)
             this.answers.push(answer);
         this.written(round, runs, script);
         if (turn.awaits === "line" || turn.awaits === "character")
@@ -604,6 +608,7 @@ export class Play {
         // (what stands below the text may have come or gone)
         this.log.resized();
         this.reader.changed();
+        this.reader.turned(standing);
     }
 
     /**

@@ -116,6 +116,11 @@ export class Screen {
         return parts(this.rows[0] || "")[0] || "";
     }
 
+    /** The text of the status line, with three spaces between its parts. */
+    line() {
+        return (this.status ? statusParts(this.status) : parts(this.rows[0] || "")).join("   ");
+    }
+
     draw() {
         const isEmpty = !this.status && !this.grid.flat().some(isSeen);
         upper.hidden = isEmpty;

@@ -1,7 +1,8 @@
 // The machine, in a worker: it runs a story by slices, so that a message to stop is heard at any time.
 
 import { Module, Refused } from "../zkit.js";
-import { fits } from "./answers.js";
+import { fits, isRead } from "./answers.js";
+import { fromBase64, toBase64 } from "./bytes.js";
 
 /** @typedef {import("./answers.js").Answer} Answer */
 
@@ -27,6 +28,9 @@ const PATIENCE = 1000;
 /** So many milliseconds pass at most before what was repeated is posted, and messages are let in. */
 const PART = 50;
 
+/** The key that an empty line of a walkthrough is. */
+const ENTER = 10;
+
 /** @type {any} */
 const page = self;
 
@@ -48,11 +52,6 @@ function breath() {
         };
         channel.port2.postMessage(null);
     });
-}
-
-/** @param {string} text */
-function fromBase64(text) {
-    return Uint8Array.from(atob(text), (character) => character.charCodeAt(0));
 }
 
 /**
@@ -109,7 +108,32 @@ function give(answer) {
         return game.saved(answer.saved);
     if ("restored" in answer)
         return answer.restored === null ? game.restore(null) : restore(fromBase64(answer.restored));
-    return "undo" in answer ? game.undo() : freshen();
+    return "undo" in answer ? game.undo() : "fresh" in answer && freshen();
+}
+
+/**
+ * The game that a walkthrough has saved last.
+ * @type {Uint8Array | null}
+ */
+let walked = null;
+
+/**
+ * What a story is given for an answer: for a line of a walkthrough the line, its first character, or what the story has
+ * saved itself.
+ * @param {string} awaits
+ * @param {Answer} answer
+ * @returns {Answer}
+ */
+function taken(awaits, answer) {
+    if (typeof answer !== "object" || !("typed" in answer))
+        return answer;
+    if (awaits === "save") {
+        walked = game.image();
+        return { saved: walked !== null };
+    }
+    if (awaits === "restore")
+        return { restored: walked && toBase64(walked) };
+    return awaits === "character" ? answer.typed.codePointAt(0) ?? ENTER : answer.typed;
 }
 
 /** @param {string} awaits */
@@ -183,8 +207,9 @@ async function run(answer) {
 /**
  * Runs the story as one turn of a play that is repeated, and answers what it awaits.
  * @param {object[]} turns where what came of it is added
+ * @param {Answer | null} answer what it was given before
  */
-async function repeated(turns) {
+async function repeated(turns, answer) {
     /** @type {import("../zkit.js").Run[]} */
     const all = [];
     let text = "";
@@ -192,7 +217,7 @@ async function repeated(turns) {
         all.push(...runs);
         text += script;
     });
-    turns.push({ ...seen(awaits), runs: all, script: text });
+    turns.push({ ...seen(awaits), runs: all, script: text, answer });
     return awaits;
 }
 
@@ -206,19 +231,23 @@ async function replay(answers) {
     let began = performance.now();
     /** @type {object[]} */
     let turns = [];
-    let awaits = await repeated(turns);
+    let awaits = await repeated(turns, null);
     let given = 0;
-    while (stopped === Infinity && given < answers.length && fits(awaits, answers[given]) && give(answers[given])) {
-        given++;
-        awaits = await repeated(turns);
+    while (stopped === Infinity && given < answers.length) {
+        const answer = taken(awaits, answers[given]);
+        if (!fits(awaits, answer) || !give(answer))
+            break;
+        // (a walkthrough has no line for a saved game)
+        given += isRead(answer) || answer === answers[given] ? 1 : 0;
+        awaits = await repeated(turns, answer);
         if (performance.now() - began > PART) {
-            page.postMessage({ turns });
+            page.postMessage({ turns, given });
             turns = [];
             await breath();
             began = performance.now();
         }
     }
-    page.postMessage({ turns });
+    page.postMessage({ turns, given });
     return { ...standing(awaits), given };
 }
 
@@ -231,6 +260,7 @@ const CALLS = {
     open: ({ story: bytes, options }) => {
         replace((it) => it.open(bytes, { ...options, room: ROOM, styles: true, keys: true }));
         story = bytes;
+        walked = null;
         return about(game);
     },
     storyIn: ({ file }) => /** @type {Module} */ (module).storyIn(file),

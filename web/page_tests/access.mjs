@@ -5,7 +5,7 @@ import { MENU, SCREEN, holds, pause } from "./page.mjs";
 const LEAST = 4.5;
 
 /** In the page: each text that is seen, with the contrast to its ground. */
-function contrastsInPage() {
+export function contrastsInPage() {
     const channels = (colour) => (colour.match(/[\d.]+/g) || []).map(Number);
     const linear = (value) => value <= 10.31475 ? value / 255 / 12.92 : ((value / 255 + 0.055) / 1.055) ** 2.4;
     const light = ([r, g, b]) => 0.2126 * linear(r) + 0.7152 * linear(g) + 0.0722 * linear(b);
@@ -89,16 +89,18 @@ export async function contrast(page) {
 }
 
 /** In the page: what can be used, with its role and its name. */
-function namesInPage() {
+export function namesInPage() {
     const textOf = (ids) => ids.split(" ").map((id) => document.getElementById(id)?.textContent.trim()).join(" ");
     const top = document.querySelector("dialog[open]") || document.body;
-    const all = [...top.querySelectorAll("button, input, select, a, [role], dialog"), ...top === document.body ? [] : [top]];
+    const all = [...top.querySelectorAll("button, input, select, a, [role], dialog"), ...top === document.body ? []
+        : [top]];
     return all.filter((it) => it.getClientRects().length && !(it.type === "file")).map((it) => {
         const own = { A: "link", INPUT: "textbox", SELECT: "combobox" }[it.tagName] || it.tagName.toLowerCase();
         const role = it.getAttribute("role") || own;
         const label = it.labels?.[0]?.textContent.trim();
         const others = it.getAttribute("aria-labelledby");
-        const text = ["BUTTON", "A"].includes(it.tagName) || ["status", "heading"].includes(role) ? it.textContent.trim() : "";
+        const text = ["BUTTON", "A"].includes(it.tagName) || ["status", "heading"].includes(role)
+            ? it.textContent.trim() : "";
         const name = it.getAttribute("aria-label") || (others && textOf(others)) || label || text;
         return [role, name, it.id];
     });
@@ -112,6 +114,7 @@ export async function named(page) {
             roles.set(role, (roles.get(role) || new Set()).add(name));
         }
     });
-    const heads = [...roles].map(([role, names]) => `${role} (${[...names].filter((name) => name.length < 30).slice(0, 4).join(", ")})`);
+    const heads = [...roles].map(([role, names]) =>
+        `${role} (${[...names].filter((name) => name.length < 30).slice(0, 4).join(", ")})`);
     return process.env.ROLES ? heads.join("; ") : [...roles].map(([role, names]) => `${names.size} ${role}`).join(", ");
 }

@@ -4,9 +4,13 @@ import { randomBytes } from "node:crypto";
 import { writeFileSync } from "node:fs";
 import { contrast, named } from "./access.mjs";
 import { KEEPING, blorb, spoilInPage } from "./keeping.mjs";
-import { EXAMPLES, MENU, basename, holds, join, linesOf, native, pause, readFileSync, same, sameWithKeys } from "./page.mjs";
+import {
+    EXAMPLES, MENU, basename, holds, join, linesOf, native, pause, readFileSync, same, sameWithKeys,
+} from "./page.mjs";
+import { OWN } from "./own.mjs";
 import { PERSON } from "./person.mjs";
 import { SCREENS } from "./screens.mjs";
+import { SITES } from "./sites.mjs";
 import { echoingKeys, readingKeys, telling } from "./stories.mjs";
 import { USING } from "./using.mjs";
 
@@ -15,7 +19,8 @@ const WALKTHROUGH = join(EXAMPLES, "lighthouse.walkthrough");
 const SAVES = join(EXAMPLES, "lighthouse.saves");
 const LISTINGS = {
     findings: ["check"], header: ["info", "--header"], map: ["info", "--map"], objects: ["info", "--objects"],
-    tree: ["info", "--tree"], dictionary: ["info", "--dictionary"], abbreviations: ["info", "--abbreviations"], code: ["disasm"],
+    tree: ["info", "--tree"], dictionary: ["info", "--dictionary"], abbreviations: ["info", "--abbreviations"],
+    code: ["disasm"],
 };
 
 function joined(lines) {
@@ -33,16 +38,19 @@ async function starts(page) {
     await page.ready();
     const ready = Date.now() - began;
     await page.click("#example");
-    await page.until(() => document.getElementById("scroller").textContent.includes("Jetty") && !document.getElementById("ask").hidden);
+    await page.until(() => document.getElementById("scroller").textContent.includes("Jetty")
+        && !document.getElementById("ask").hidden);
     return `ready after ${ready} ms, the first room after ${Date.now() - began} ms`;
 }
 
 async function fetchesNothing(page) {
+    await page.fresh();
     const tries = await page.run(() => fetch("https://example.org/").then(() => "went out", () => "refused"));
     same(tries, "refused");
     const policy = await page.run(() => document.querySelector("meta[http-equiv]").content);
     holds(policy.startsWith("default-src 'none'") && !policy.includes("unsafe-inline"), policy);
-    const others = await page.run(() => performance.getEntriesByType("resource").filter((it) => !/^(blob|data):/.test(it.name)).length);
+    const others = await page.run(() =>
+        performance.getEntriesByType("resource").filter((it) => !/^(blob|data):/.test(it.name)).length);
     same(others, 0, "the number of files that were fetched");
 }
 
@@ -57,7 +65,8 @@ async function olderText(page, version) {
         scroller.dispatchEvent(new Event("scroll"));
         return isFirst;
     });
-    same(await page.shownText(), readFileSync(join(EXAMPLES, `lighthouse.z${version}.txt`), "utf8"), "the text in the page");
+    same(await page.shownText(), readFileSync(join(EXAMPLES, `lighthouse.z${version}.txt`), "utf8"),
+        "the text in the page");
 }
 
 async function walkthrough(page, version) {
@@ -217,7 +226,8 @@ async function seeded(page, seed) {
     await page.until(() => document.getElementById("asking").open || !document.querySelector("dialog[open]"));
     if (await page.isShown("asking"))
         await page.click("#asking-yes");
-    await page.until(() => !document.querySelector("dialog[open]") && !document.getElementById("scroller").textContent.includes(">roll"));
+    await page.until(() => !document.querySelector("dialog[open]")
+        && !document.getElementById("scroller").textContent.includes(">roll"));
     await page.rests();
 }
 
@@ -247,9 +257,11 @@ async function link(page) {
     await page.click("#line-list li:last-child button");
     await page.rests();
     await page.say("hello");
-    same(await page.transcript(), text.replace(/roll\n[^>]*>$/, "hello\nNothing happens.\n\n>"), "the transcript that goes on");
+    same(await page.transcript(), text.replace(/roll\n[^>]*>$/, "hello\nNothing happens.\n\n>"),
+        "the transcript that goes on");
     await page.lines();
-    same(await page.run(() => document.querySelectorAll("#line-list .later").length), 0, "the number of later lines after an answer");
+    same(await page.run(() => document.querySelectorAll("#line-list .later").length), 0,
+        "the number of later lines after an answer");
     return `${address.length} characters`;
 }
 
@@ -320,10 +332,13 @@ async function linesBackAndForth(page) {
         await page.rests();
     };
     await choose(1);
-    same(await page.transcript(), native(["play", "--echo", MENU], "roll\n").text, "the transcript before the second line");
+    same(await page.transcript(), native(["play", "--echo", MENU], "roll\n").text,
+        "the transcript before the second line");
     await page.lines();
-    const looks = await page.run(() => [...document.querySelectorAll("#line-list li")].map((it) => `${it.textContent}:${it.className}`));
-    same(looks.join(), "roll:,roll:later,roll:later,(the end of the list):later", "which lines look given, and which later");
+    const looks = await page.run(() =>
+        [...document.querySelectorAll("#line-list li")].map((it) => `${it.textContent}:${it.className}`));
+    same(looks.join(), "roll:,roll:later,roll:later,(the end of the list):later",
+        "which lines look given, and which later");
     await page.leave();
     await choose(3);
     same(await page.transcript(), text, "the transcript at the end again");
@@ -399,7 +414,8 @@ async function playFile(page) {
 async function badPlays(page) {
     await page.fresh();
     const play = { zkit: 1, ifid: "ZCODE-1-261127-15E0", name: "x", story: "", seed: "1", told: "", answers: [] };
-    const [spoilt, other, text] = ["it is damaged", "it was made by another version of this page", "not a story: it is a text file"];
+    const [spoilt, other, text] = ["it is damaged", "it was made by another version of this page",
+        "not a story: it is a text file"];
     const bad = [
         [{ answers: [-1] }, spoilt], [{ answers: [{ restored: "%" }] }, spoilt], [{ answers: [[]] }, spoilt],
         [{ seed: "x" }, spoilt], [{ name: "x".repeat(999) }, spoilt], [{ zkit: 2 }, other], [{ zkit: undefined }, text],
@@ -417,7 +433,8 @@ async function badPlays(page) {
 
 /** A link to a play that is not shown has its words too, and the play that is on stays. */
 async function refusedLink(page) {
-    const play = { zkit: 1, ifid: "ZCODE-1-261127-15E0", name: "x", story: "", seed: "1", told: "", answers: ["x".repeat(256)] };
+    const play = { zkit: 1, ifid: "ZCODE-1-261127-15E0", name: "x", story: "", seed: "1", told: "",
+        answers: ["x".repeat(256)] };
     const hash = `#play=0${Buffer.from(JSON.stringify(play)).toString("base64url")}`;
     const words = "The link: this play can't be shown: it has a line of more than 255 characters.";
     await page.fresh(hash);
@@ -472,7 +489,8 @@ async function box(page) {
     await page.fresh();
     await page.open(join(EXAMPLES, "box.z5"));
     const text = await page.run(() => [...document.querySelectorAll(".box")].map((it) => it.textContent).join("|"));
-    holds(text.startsWith("Through me the way into the city of woe,\n") && text.includes("-- Dante, Inferno"), JSON.stringify(text));
+    holds(text.startsWith("Through me the way into the city of woe,\n") && text.includes("-- Dante, Inferno"),
+        JSON.stringify(text));
     same((await page.text("upper")).replace(/\s+/g, " ").trim(), "The gate Turns: 0", "the status line");
     await page.say("look");
     same(await page.run(() => document.querySelectorAll(".box").length), 1, "the number of boxes");
@@ -490,7 +508,8 @@ async function menu(page) {
     await page.until(() => document.getElementById("scroller").textContent.includes("A test did."));
     // keys that the browser takes for itself are not the story's
     for (const key of [{ ctrlKey: true }, { metaKey: true }, { altKey: true }, { isComposing: true }])
-        await page.run((it) => !document.body.dispatchEvent(new KeyboardEvent("keydown", { key: "q", bubbles: true, ...it })), key);
+        await page.run((it) =>
+            !document.body.dispatchEvent(new KeyboardEvent("keydown", { key: "q", bubbles: true, ...it })), key);
     await page.rests();
     same(await page.text("asked"), "Press a key", "what is asked after keys of the browser");
     await page.browser.press("q");
@@ -516,7 +535,8 @@ async function damaged(page) {
     await page.drop(Buffer.from("Once upon a time there was a text. ".repeat(9)), "tale.txt");
     await page.until(() => document.getElementById("told").textContent === "tale.txt: not a story: it is a text file");
     await page.drop(Buffer.alloc(2000, 6), "six.z6");
-    await page.until(() => document.getElementById("told").textContent === "six.z6: not a story: version 6 is not played");
+    await page.until(() =>
+        document.getElementById("told").textContent === "six.z6: not a story: version 6 is not played");
     const hello = readFileSync(join(EXAMPLES, "hello.z3"));
     hello[hello.readUInt16BE(6)] = 0;
     await page.drop(hello, "hello.z3");
@@ -607,7 +627,8 @@ async function undoOfStory(page) {
     await page.rests();
     await page.say("look");
     const text = await page.transcript();
-    holds(text.slice(text.lastIndexOf(">look")).startsWith(">look\nJetty\nThe planks"), "the story is not where it was");
+    holds(text.slice(text.lastIndexOf(">look")).startsWith(">look\nJetty\nThe planks"),
+        "the story is not where it was");
 }
 
 async function restartAndSeed(page) {
@@ -619,7 +640,8 @@ async function restartAndSeed(page) {
     same(await page.text("asking-words"), "The story starts over.");
     await page.click("#asking-no");
     await page.until(() => !document.querySelector("dialog[open]"));
-    same(await page.transcript(), native(["play", "--echo", MENU], "roll\n").text, "the transcript of a play that goes on");
+    same(await page.transcript(), native(["play", "--echo", MENU], "roll\n").text,
+        "the transcript of a play that goes on");
     await seeded(page, "12");
     await page.say("roll");
     same(await page.transcript(), native(["play", "--echo", "--seed", "12", MENU], "roll\n").text, "the transcript");
@@ -691,17 +713,21 @@ async function insideWorks(page) {
     await page.until(() => document.getElementById("drawing").textContent.includes("found nothing wrong"));
     await page.click("#tab-map");
     await page.until(() => document.querySelectorAll(".scale i").length === 8);
-    const widths = await page.run(() => [...document.querySelectorAll(".scale i")].map((it) => parseFloat(it.style.width)));
+    const widths = await page.run(() =>
+        [...document.querySelectorAll(".scale i")].map((it) => parseFloat(it.style.width)));
     holds(Math.abs(widths.reduce((sum, it) => sum + it, 0) - 100) < 0.01, `the bar is ${widths}`);
-    const colours = await page.run(() => [...document.querySelectorAll(".scale i")].map((it) => getComputedStyle(it).backgroundColor));
+    const colours = await page.run(() =>
+        [...document.querySelectorAll(".scale i")].map((it) => getComputedStyle(it).backgroundColor));
     same(new Set(colours).size, 8, "the number of colours of the bar");
     await page.click("#tab-tree");
     await page.until(() => document.querySelector("#listing .fold"));
     await page.click("#listing .fold");
     await page.until(() => !document.getElementById("listing").textContent.includes("postbag"));
-    const focus = await page.run(() => [document.activeElement.className, document.activeElement.getAttribute("aria-expanded")]);
+    const focus = await page.run(() =>
+        [document.activeElement.className, document.activeElement.getAttribute("aria-expanded")]);
     same(focus.join(), "fold,false", "where the focus is after a line was folded");
-    const rows = await page.run(() => [...document.querySelectorAll("#listing .row-line")].map((it) => it.textContent).join(""));
+    const rows = await page.run(() =>
+        [...document.querySelectorAll("#listing .row-line")].map((it) => it.textContent).join(""));
     same(rows, withoutFirst(listed(["info", "--tree"], z(5))), "the tree without what is in its first line");
     await page.click("#listing .fold");
     await page.until(() => document.getElementById("listing").textContent.includes("postbag"));
@@ -782,11 +808,12 @@ async function reflow(page) {
 }
 
 /**
- * Lines beside the width of a story, which is that of its longest line: how long a line is, the word after it, and whether
- * both are joined. A word that would have fitted was not wrapped.
+ * Lines beside the width of a story, which is that of its longest line: how long a line is, the word after it, and
+ * whether both are joined. A word that would have fitted was not wrapped.
  */
 const WRAPS = [
-    [70, "x".repeat(60), "y".repeat(9), false], [70, "x".repeat(60), "y".repeat(10), true], [70, "x".repeat(69), "y", true],
+    [70, "x".repeat(60), "y".repeat(9), false], [70, "x".repeat(60), "y".repeat(10), true],
+    [70, "x".repeat(69), "y", true],
     [70, "x".repeat(60), ` ${"y".repeat(30)}`, false], [70, ` ${"x".repeat(65)}`, "y".repeat(9), false],
     [70, "x".repeat(60), `y ${"y".repeat(30)}`, false], [59, "x".repeat(58), "y".repeat(9), false],
     [60, "x".repeat(58), "y", false], [60, "x".repeat(58), "yy", true], [80, "x".repeat(70), "y".repeat(9), false],
@@ -807,7 +834,8 @@ async function wraps(page) {
         }));
         const wanted = tries.filter(([, , , isJoined]) => isJoined).map(([, line, next]) => `${line}+${next}`);
         same(softs.join("|"), wanted.join("|"), `the lines that are joined at a width of ${width}`);
-        holds((await page.transcript()).includes(parts.join("")), "the transcript does not keep the lines as they came");
+        holds((await page.transcript()).includes(parts.join("")),
+            "the transcript does not keep the lines as they came");
     }
 }
 
@@ -848,10 +876,12 @@ export const CASES = [
     ["starts", starts],
     ["fetches nothing", fetchesNothing],
     ...[3, 4, 5, 8].map((version) => [`walkthrough of version ${version}`, (page) => walkthrough(page, version)]),
-    ...[3, 4, 5, 8].map((version) => [`save and restore in version ${version}`, (page) => saveAndRestore(page, version)]),
+    ...[3, 4, 5, 8].map((version) =>
+        [`save and restore in version ${version}`, (page) => saveAndRestore(page, version)]),
     ["a slot is replaced only where the reader agrees", replacedSlot],
     ["a saved game goes out as a file", quetzalOut],
-    ...[3, 4, 5, 8].map((version) => [`a game that dfrotz saved, version ${version}`, (page) => quetzalIn(page, version)]),
+    ...[3, 4, 5, 8].map((version) =>
+        [`a game that dfrotz saved, version ${version}`, (page) => quetzalIn(page, version)]),
     ["a reload goes on", reload],
     ["a reload goes on where the module is another", reloadOfAnotherModule],
     ["a link", link],
@@ -888,6 +918,8 @@ export const CASES = [
     ...USING,
     ...PERSON,
     ...SCREENS,
+    ...OWN,
+    ...SITES,
     ["360 pixels wide", narrow],
     ["contrast of all texts", contrast],
     ["roles and names", named],

@@ -5,7 +5,8 @@ import { existsSync, mkdtempSync, rmSync, writeFileSync } from "node:fs";
 import { tmpdir } from "node:os";
 import { join } from "node:path";
 
-const PROGRAMS = ["/usr/lib/chromium/chromium", "/usr/bin/chromium", "/usr/bin/chromium-browser", "/usr/bin/google-chrome"];
+const PROGRAMS = ["/usr/lib/chromium/chromium", "/usr/bin/chromium", "/usr/bin/chromium-browser",
+    "/usr/bin/google-chrome"];
 const KEYS = {
     Enter: ["Enter", 13, "\r"], Tab: ["Tab", 9, ""], Escape: ["Escape", 27, ""], " ": ["Space", 32, " "],
     ArrowUp: ["ArrowUp", 38, ""], ArrowDown: ["ArrowDown", 40, ""], ArrowRight: ["ArrowRight", 39, ""],
@@ -13,7 +14,9 @@ const KEYS = {
     PageUp: ["PageUp", 33, ""], PageDown: ["PageDown", 34, ""], Home: ["Home", 36, ""], End: ["End", 35, ""],
 };
 
-/** What a key is by its name: its place, its number and its text. Only letters and digits have a number that is theirs. */
+/**
+ * What a key is by its name: its place, its number and its text. Only letters and digits have a number that is theirs.
+ */
 function keyOf(name) {
     const upper = name.toUpperCase();
     return KEYS[name] || [`Key${upper}`, /^[A-Z0-9]$/.test(upper) ? upper.charCodeAt(0) : 0, name];
@@ -64,7 +67,8 @@ export class Chromium {
 
     static async launch() {
         const folder = mkdtempSync(join(tmpdir(), "zkit-chromium-"));
-        const child = spawn(program(), ["--headless=new", "--no-sandbox", "--disable-gpu", "--remote-debugging-pipe", "--no-first-run",
+        const child = spawn(program(),
+            ["--headless=new", "--no-sandbox", "--disable-gpu", "--remote-debugging-pipe", "--no-first-run",
             `--user-data-dir=${folder}/profile`, "--disable-dev-shm-usage", "--hide-scrollbars", "about:blank"],
         { stdio: ["ignore", "ignore", "ignore", "pipe", "pipe"] });
         const browser = new Chromium();
@@ -79,7 +83,8 @@ export class Chromium {
         const { sessionId } = await this.pipe.send("Target.attachToTarget", { targetId, flatten: true });
         this.here = { targetId, call: (method, params) => this.pipe.send(method, params, sessionId) };
         this.call = this.here.call;
-        await Promise.all(["Page.enable", "Runtime.enable", "Log.enable", "DOM.enable"].map((method) => this.call(method)));
+        await Promise.all(["Page.enable", "Runtime.enable", "Log.enable", "DOM.enable"].map((method) =>
+            this.call(method)));
     }
 
     /** Opens another tab of the same size and goes to it, and answers the one before. */
@@ -111,7 +116,8 @@ export class Chromium {
 
     async size(width, height, scale = 1) {
         this.sized = [width, height, scale];
-        await this.call("Emulation.setDeviceMetricsOverride", { width, height, deviceScaleFactor: scale, mobile: false });
+        await this.call("Emulation.setDeviceMetricsOverride",
+            { width, height, deviceScaleFactor: scale, mobile: false });
     }
 
     async dark(isDark) {
@@ -129,9 +135,23 @@ export class Chromium {
         await this.call("Page.reload");
     }
 
+    /** Goes into the page's frame, which no other page may look into: what is run from now on runs there. */
+    async intoFrame() {
+        const { targetInfos } = await this.pipe.send("Target.getTargets");
+        const { targetId } = targetInfos.find(({ type }) => type === "iframe");
+        const { sessionId } = await this.pipe.send("Target.attachToTarget", { targetId, flatten: true });
+        this.inFrame = (method, params) => this.pipe.send(method, params, sessionId);
+    }
+
+    async outOfFrame() {
+        this.inFrame = null;
+    }
+
     async run(does, ...values) {
+        const call = this.inFrame || this.call;
         const expression = `(${does})(${values.map((value) => JSON.stringify(value)).join(",")})`;
-        const it = await this.call("Runtime.evaluate", { expression, awaitPromise: true, returnByValue: true, userGesture: true });
+        const it = await call("Runtime.evaluate",
+            { expression, awaitPromise: true, returnByValue: true, userGesture: true });
         if (it.exceptionDetails)
             throw new Error(it.exceptionDetails.exception?.description || it.exceptionDetails.text);
         return it.result.value;
@@ -150,7 +170,8 @@ export class Chromium {
 
     /** Puts a text on the clipboard, and pastes it by the keys. */
     async paste(text) {
-        await this.pipe.send("Browser.grantPermissions", { permissions: ["clipboardReadWrite", "clipboardSanitizedWrite"] });
+        await this.pipe.send("Browser.grantPermissions",
+            { permissions: ["clipboardReadWrite", "clipboardSanitizedWrite"] });
         await this.run((it) => navigator.clipboard.writeText(it), text);
         const it = { key: "v", code: "KeyV", windowsVirtualKeyCode: 86, modifiers: 2 };
         await this.call("Input.dispatchKeyEvent", { type: "rawKeyDown", commands: ["paste"], ...it });
@@ -159,7 +180,8 @@ export class Chromium {
 
     /** Clicks at a place by the mouse. */
     async mouse(x, y) {
-        const events = ["mouseMoved", "mousePressed", "mouseReleased"].map((type) => ({ type, x, y, button: "left", clickCount: 1 }));
+        const events = ["mouseMoved", "mousePressed", "mouseReleased"].map((type) =>
+            ({ type, x, y, button: "left", clickCount: 1 }));
         await Promise.all(events.map((event) => this.call("Input.dispatchMouseEvent", event)));
     }
 

@@ -140,6 +140,16 @@ export class Firefox {
         await this.wire.send("WebDriver:Refresh");
     }
 
+    /** Goes into the page's frame, which no other page may look into: what is run from now on runs there. */
+    async intoFrame() {
+        const { value } = await this.wire.send("WebDriver:FindElement", { using: "css selector", value: "iframe" });
+        await this.wire.send("WebDriver:SwitchToFrame", { element: value[ELEMENT] });
+    }
+
+    async outOfFrame() {
+        await this.wire.send("WebDriver:SwitchToFrame", { id: null });
+    }
+
     async run(does, ...values) {
         const script = `return (${does})(...arguments)`;
         return (await this.wire.send("WebDriver:ExecuteScript", { script, args: values })).value;
@@ -168,13 +178,15 @@ export class Firefox {
 
     /** Clicks at a place by the mouse. */
     async mouse(x, y) {
-        const actions = [{ type: "pointerMove", x, y }, { type: "pointerDown", button: 0 }, { type: "pointerUp", button: 0 }];
+        const actions = [{ type: "pointerMove", x, y }, { type: "pointerDown", button: 0 },
+            { type: "pointerUp", button: 0 }];
         await this.wire.send("WebDriver:PerformActions", { actions: [{ type: "pointer", id: "mouse", actions }] });
     }
 
     /** Taps at a place by a finger. */
     async touch(x, y) {
-        const actions = [{ type: "pointerMove", x, y }, { type: "pointerDown", button: 0 }, { type: "pointerUp", button: 0 }];
+        const actions = [{ type: "pointerMove", x, y }, { type: "pointerDown", button: 0 },
+            { type: "pointerUp", button: 0 }];
         const finger = { type: "pointer", id: "finger", parameters: { pointerType: "touch" }, actions };
         await this.wire.send("WebDriver:PerformActions", { actions: [finger] });
     }

@@ -7,14 +7,16 @@ import { repeating } from "./stories.mjs";
 
 const Z5 = join(EXAMPLES, "lighthouse.z5");
 
+/** A chunk of a Blorb file. */
+export function chunk(name, data) {
+    const head = Buffer.alloc(8);
+    head.write(name, "latin1");
+    head.writeUInt32BE(data.length, 4);
+    return Buffer.concat([head, data, Buffer.alloc(data.length % 2)]);
+}
+
 /** A Blorb file around a story. */
 export function blorb(story, metadata = "") {
-    const chunk = (name, data) => {
-        const head = Buffer.alloc(8);
-        head.write(name, "latin1");
-        head.writeUInt32BE(data.length, 4);
-        return Buffer.concat([head, data, Buffer.alloc(data.length % 2)]);
-    };
     const index = Buffer.alloc(16);
     index.writeUInt32BE(1);
     index.write("Exec", 4, "latin1");
@@ -36,7 +38,8 @@ export function spoilInPage(shelf, field) {
                     return resolve(request.result.close());
                 const it = cursor.value;
                 const last = it[field] ? it[field].length - 1 : 0;
-                const spoilt = typeof it[field] === "string" ? "another" : it[field]?.map((byte, i) => i === last ? byte ^ 1 : byte);
+                const spoilt = typeof it[field] === "string" ? "another"
+                    : it[field]?.map((byte, i) => i === last ? byte ^ 1 : byte);
                 cursor.update({ ...it, [field]: spoilt });
                 return cursor.continue();
             };
@@ -123,7 +126,8 @@ async function forgets(page, isLasting) {
     same(await page.isShown("not-lasting"), !isLasting, "whether the page says that nothing is kept");
     await page.leave();
     await page.rests();
-    same(await page.transcript(), native(["play", "--echo", Z5], "save\n").text, "the transcript of a game that is not saved");
+    same(await page.transcript(), native(["play", "--echo", Z5], "save\n").text,
+        "the transcript of a game that is not saved");
     await page.say("open bag");
     await save(page, "first");
     await page.say("take letter");
@@ -133,7 +137,8 @@ async function forgets(page, isLasting) {
     await page.asks("Remove the saved game?", "Remove it", "Keep it");
     await page.click("#asking-no");
     await page.until(() => !document.getElementById("asking").open);
-    same(await page.run(() => document.querySelectorAll("#slots li").length), 2, "the number of saved games that are kept");
+    same(await page.run(() => document.querySelectorAll("#slots li").length), 2,
+        "the number of saved games that are kept");
     await page.click("#slots li:first-child button:last-child");
     await page.click("#asking-yes");
     await page.until(() => document.querySelectorAll("#slots li").length === 1);
@@ -150,7 +155,9 @@ async function forgets(page, isLasting) {
     same(found, wanted, "what was restored");
 }
 
-/** How a browser keeps nothing, as in some private windows: it refuses, it fails, or its store can't be opened twice. */
+/**
+ * How a browser keeps nothing, as in some private windows: it refuses, it fails, or its store can't be opened twice.
+ */
 const KEEPS_NOTHING = {
     "it is refused": `for (const name of ["indexedDB", "localStorage"])
         Object.defineProperty(window, name, { get() { throw new DOMException("no", "SecurityError"); } });`,
@@ -185,7 +192,8 @@ async function savedFiles(page) {
     const story = readFileSync(Z5);
     const quetzal = readFileSync(`${Z5}.dfrotz`);
     const files = {
-        "Blorb.qzl": blorb(story), "story.qzl": story, "text.qzl": Buffer.from("a saved game"), "empty.qzl": Buffer.alloc(0),
+        "Blorb.qzl": blorb(story), "story.qzl": story, "text.qzl": Buffer.from("a saved game"),
+        "empty.qzl": Buffer.alloc(0),
         "other.qzl": Buffer.from("LIST0000IFZS"), "short.qzl": quetzal.subarray(0, 11),
     };
     await page.fresh();
@@ -196,7 +204,8 @@ async function savedFiles(page) {
         writeFileSync(file, bytes);
         same(await listedSaves(page), "", "the saved games");
         await page.choose(file, "saved-file");
-        await page.until((it) => document.getElementById("told").textContent === `${it} is not a Quetzal saved game.`, name);
+        await page.until((it) => document.getElementById("told").textContent === `${it} is not a Quetzal saved game.`,
+            name);
         await page.until(() => !document.querySelector("dialog[open]"));
     }
     same(await listedSaves(page), "", "the saved games");
@@ -242,6 +251,7 @@ export const KEEPING = [
     ["two reloads", twoReloads],
     ["saved games that are removed", async (page) => (await page.fresh(), forgets(page, true))],
     ["a question right after another one", askedAtOnce],
-    ...Object.keys(KEEPS_NOTHING).map((how) => [`a browser that keeps nothing: ${how}`, (page) => forgetsAll(page, how)]),
+    ...Object.keys(KEEPS_NOTHING).map((how) =>
+        [`a browser that keeps nothing: ${how}`, (page) => forgetsAll(page, how)]),
     ["files that are no saved games", savedFiles],
 ];

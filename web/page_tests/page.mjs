@@ -54,12 +54,15 @@ function newestIsSeen() {
 }
 
 /**
- * In the page: notes what a screen reader speaks from now on: what is added to a live region or changed in it, as often as
- * that happens.
+ * In the page: notes what a screen reader speaks from now on: what is added to a live region or changed in it, as often
+ * as that happens.
  */
 function hearInPage() {
     window.spoken = [];
-    const regionOf = (node) => (node.nodeType === Node.TEXT_NODE ? node.parentElement : node)?.closest("[aria-live], [role=log], [role=status]");
+    const regionOf = (node) => {
+        const element = node.nodeType === Node.TEXT_NODE ? node.parentElement : node;
+        return element?.closest("[aria-live], [role=log], [role=status]");
+    };
     const speak = (region, text) => {
         if (region && region.getClientRects().length && !region.closest("[aria-busy=true]") && text)
             window.spoken.push([region.id, text]);
@@ -236,9 +239,11 @@ export class Page {
         return this.until((wanted) => new Promise((resolve) => {
             const request = indexedDB.open("zkit");
             request.onsuccess = () => {
-                request.result.transaction("plays").objectStore("plays").getAll().onsuccess = ({ target: { result } }) => {
+                const asked = request.result.transaction("plays").objectStore("plays").getAll();
+                asked.onsuccess = ({ target: { result } }) => {
                     request.result.close();
-                    const reads = (it) => it.answers.filter((answer) => typeof answer !== "object" || "undo" in answer).length;
+                    const reads = (it) =>
+                        it.answers.filter((answer) => typeof answer !== "object" || "undo" in answer).length;
                     resolve(result.some((it) => it.answers && reads(it) === wanted));
                 };
             };
@@ -315,7 +320,9 @@ export class Page {
     }
 }
 
-/** Compares the page's transcript with `zkit play --echo`, which shows an empty line for Enter where a key is awaited. */
+/**
+ * Compares the page's transcript with `zkit play --echo`, which shows an empty line for Enter where a key is awaited.
+ */
 export function sameWithKeys(found, wanted, keys) {
     let rest = wanted;
     for (let i = 0; i < keys; i++) {

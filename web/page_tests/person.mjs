@@ -1,5 +1,5 @@
-// What a person meets: where the focus is and what is typed then, what is seen of the newest turn, and what is spoken. All
-// is done by keys, the mouse and fingers of the browser.
+// What a person meets: where the focus is and what is typed then, what is seen of the newest turn, and what is spoken.
+// All is done by keys, the mouse and fingers of the browser.
 
 import { EXAMPLES, MENU, holds, join, native, pause, readFileSync, same } from "./page.mjs";
 import { blorb } from "./keeping.mjs";
@@ -32,12 +32,15 @@ const LEAVES = {
     "a finger": (page, button) => page.tap(button),
 };
 
-/** After a game was saved or restored, or was not, the caret is in the line, and what is typed next is its next line. */
+/**
+ * After a game was saved or restored, or was not, the caret is in the line, and what is typed next is its next line.
+ */
 async function typesAfterSaving(page) {
     await page.fresh();
     await page.click("#example");
     await page.rests();
-    const tries = [["save", "#save-none"], ["save", "#saving .head button"], ["save", "#keep"], ["restore", "#restore-none"],
+    const tries = [["save", "#save-none"], ["save", "#saving .head button"], ["save", "#keep"],
+        ["restore", "#restore-none"],
         ["restore", "#restoring .head button"], ["restore", "#slots .pick"], ["save", "#saving-slots .pick"]];
     for (const [how, leave] of Object.entries(LEAVES))
         for (const [command, button] of tries) {
@@ -50,7 +53,8 @@ async function typesAfterSaving(page) {
             if (await page.isShown("asking"))
                 await leave(page, "#asking-yes");
             await goneOn(page);
-            same((await page.focus()).split(" ")[0], "line", `the focus after ${command} was left by ${how} on ${button}`);
+            same((await page.focus()).split(" ")[0], "line",
+                `the focus after ${command} was left by ${how} on ${button}`);
             await typesOn(page, "examine letter", `after ${command} was left by ${how} on ${button}`);
         }
 }
@@ -60,7 +64,8 @@ async function typesAtOnce(page) {
     await page.fresh();
     await page.click("#example");
     await page.rests();
-    const leaves = { ...LEAVES, "Enter": (it) => it.browser.press("Enter"), "Escape": (it) => it.browser.press("Escape") };
+    const leaves = { ...LEAVES, "Enter": (it) => it.browser.press("Enter"), "Escape": (it) =>
+        it.browser.press("Escape") };
     for (const [how, leave] of Object.entries(leaves)) {
         await page.say("save");
         await page.until(isOpen);
@@ -176,7 +181,8 @@ async function backTo(page, line) {
 
 /** A play of 1,000 lines is repeated without snapshots and drawings in between, and so in a moment. */
 async function repeatsAtOnce(page) {
-    const lines = Array.from({ length: 1000 }, (_, i) => ["look", "open bag", "north", "south", "inventory", "close bag"][i % 6]);
+    const lines = Array.from({ length: 1000 }, (_, i) =>
+        ["look", "open bag", "north", "south", "inventory", "close bag"][i % 6]);
     const text = (count) => native(["play", "--echo", Z5], lines.slice(0, count).map((it) => `${it}\n`).join("")).text;
     await page.fresh();
     await page.click("#example");
@@ -236,7 +242,8 @@ async function stopsRepeating(page) {
     const file = await sharedFile(page);
     const answers = Array.from({ length: 99 }, (_, i) => `line ${i}`);
     await page.drop(Buffer.from(JSON.stringify({ ...file, answers })), "slow.play.json");
-    await page.until(() => /^Repeating the play: [1-9]\d* of 99\.$/.test(document.getElementById("running-words").textContent));
+    await page.until(() =>
+        /^Repeating the play: [1-9]\d* of 99\.$/.test(document.getElementById("running-words").textContent));
     await page.click("#stop");
     await page.until(() => !document.getElementById("ask").hidden && document.getElementById("running").hidden);
     await page.rests();
@@ -275,11 +282,14 @@ async function hearsTurns(page) {
         [text, before] = [now, here];
     }
     holds(before !== "Jetty", "the place has not changed");
-    const headings = await page.run(() => [...document.querySelectorAll("#scroller [role=heading]")].map((it) => it.textContent.trim()));
+    const headings = await page.run(() =>
+        [...document.querySelectorAll("#scroller [role=heading]")].map((it) => it.textContent.trim()));
     same(headings.join(), lines.join(), "the headings of the text");
 }
 
-/** What is not new is not spoken again: not after a reload, not where the reader goes back, not where a play is shown. */
+/**
+ * What is not new is not spoken again: not after a reload, not where the reader goes back, not where a play is shown.
+ */
 async function hearsNothingAgain(page) {
     await page.fresh();
     await page.open(MENU);
@@ -307,7 +317,8 @@ async function hearsNothingAgain(page) {
     await page.hear();
     await page.say("hello");
     same((await page.heard()).log, ">hello\nNothing happens.\n\n", "what is spoken after a reload");
-    holds((await page.run(() => document.querySelectorAll("#scroller .typed").length)) === 4, "older lines are gone from the page");
+    holds((await page.run(() => document.querySelectorAll("#scroller .typed").length)) === 4,
+        "older lines are gone from the page");
 }
 
 /** The end, a fault, and why a story has paused are spoken, once each. */
@@ -330,7 +341,8 @@ async function hearsEnds(page) {
     await page.heard();
     await page.say("print");
     await page.until(() => document.getElementById("running-words").textContent.includes("printed a lot"));
-    same((await page.heard()).said, "The story has printed a lot without asking for input.", "what is spoken of a pause");
+    same((await page.heard()).said, "The story has printed a lot without asking for input.",
+        "what is spoken of a pause");
     await page.click("#step-back");
     await page.rests();
     await page.send("turn");
@@ -396,11 +408,14 @@ async function keyboardOnScreen(page) {
         await page.browser.size(360, 360);
         await page.until(() => innerHeight <= 400);
         await pause(100);
-        same(await page.run(() => document.getElementById("scroller").scrollTop), top, "where the reader has scrolled to");
+        same(await page.run(() => document.getElementById("scroller").scrollTop), top,
+            "where the reader has scrolled to");
     });
 }
 
-/** In the page: a visual viewport that a keyboard has made lower, as some phones have it. No driver can open a keyboard. */
+/**
+ * In the page: a visual viewport that a keyboard has made lower, as some phones have it. No driver can open a keyboard.
+ */
 function lowerInPage(height, scale) {
     Object.defineProperty(visualViewport, "height", { value: height, configurable: true });
     Object.defineProperty(visualViewport, "scale", { value: scale, configurable: true });
@@ -515,7 +530,8 @@ async function undoneWhole(page) {
     await page.drop(Buffer.from(JSON.stringify(file)), "undone.play.json");
     await page.until(() => document.getElementById("told").textContent.includes("letter by letter"));
     same(await page.transcript(), text, "the transcript of the play that is repeated");
-    holds((await page.text("scroller")).includes(">(Undo)\nThat turn"), "the prompt is not whole in the play that is repeated");
+    holds((await page.text("scroller")).includes(">(Undo)\nThat turn"),
+        "the prompt is not whole in the play that is repeated");
 }
 
 /** A text of several lines that is pasted is as many lines; what stands behind the last line end waits for Enter. */
@@ -601,14 +617,18 @@ async function restoresFromMenu(page) {
     await page.menu("show-saves");
     await page.choose(`${Z5}.dfrotz`, "saved-file");
     await page.click("#slots .pick");
-    await page.until(() => document.getElementById("told").textContent.startsWith("The story did not take the command RESTORE."));
+    await page.until(() =>
+        document.getElementById("told").textContent.startsWith("The story did not take the command RESTORE."));
     await page.say("menu");
     await page.menu("show-saves");
     await page.click("#slots .pick");
     await page.until(() => document.getElementById("told").textContent.startsWith("The story awaits no command."));
 }
 
-/** A saved game, a story for another machine and a story that was cut off have their own words; the play that is on stays. */
+/**
+ * A saved game, a story for another machine and a story that was cut off have their own words; the play that is on
+ * stays.
+ */
 async function otherFiles(page) {
     const story = readFileSync(Z5);
     const glulx = Buffer.concat([Buffer.from("Glul"), Buffer.alloc(500)]);
@@ -621,7 +641,8 @@ async function otherFiles(page) {
     ];
     const cut = story.subarray(0, story.length - 1000);
     const whole = story.readUInt16BE(0x1a) * 4;
-    const lacks = `cut.z5 is cut off: ${(whole - cut.length).toLocaleString("en")} of its ${whole.toLocaleString("en")} bytes are missing.`;
+    const [missing, all] = [whole - cut.length, whole].map((it) => it.toLocaleString("en"));
+    const lacks = `cut.z5 is cut off: ${missing} of its ${all} bytes are missing.`;
     await page.fresh();
     await page.drop(cut, "cut.z5");
     await page.until((it) => document.getElementById("told").textContent === it, lacks);
@@ -703,9 +724,12 @@ async function titles(page) {
     same(await page.text("title"), "Salt & Sky", "the head after a reload");
 }
 
-/** The first page lists what was played here, the newest first; one of these is gone on with by the mouse or a finger. */
+/**
+ * The first page lists what was played here, the newest first; one of these is gone on with by the mouse or a finger.
+ */
 async function recentStories(page) {
-    const listed = () => page.run(() => [...document.querySelectorAll("#recent-list .name")].map((it) => it.textContent).join());
+    const listed = () =>
+        page.run(() => [...document.querySelectorAll("#recent-list .name")].map((it) => it.textContent).join());
     await page.fresh();
     same(await page.isShown("recent"), false, "whether a list of nothing is shown");
     await page.click("#example");
@@ -742,14 +766,16 @@ async function recentStories(page) {
 async function wordsOfPage(page) {
     await page.fresh();
     const sentences = await page.run(() => {
-        const blocks = [...document.querySelectorAll("p, li, h1, h2, h3")].map((it) => it.textContent.replace(/\s+/g, " ").trim());
+        const blocks = [...document.querySelectorAll("p, li, h1, h2, h3")].map((it) =>
+            it.textContent.replace(/\s+/g, " ").trim());
         return blocks.flatMap((it) => it.split(/(?<=[.!?:]) /)).filter((it) => it.split(" ").length > 3);
     });
     const twice = sentences.filter((it, i) => sentences.indexOf(it) !== i);
     same(twice.join("|"), "", "the sentences that stand twice");
     const clauses = sentences.flatMap((it) => it.match(/Only a deterministic interpreter/g) ?? []);
     holds(clauses.length < 2, "a promise stands twice");
-    const words = `${native(["--version"]).text.trim()}. You may use it under the MIT License or the Apache License 2.0.`;
+    const licences = "You may use it under the MIT License or the Apache License 2.0.";
+    const words = `${native(["--version"]).text.trim()}. ${licences}`;
     holds((await page.text("welcome")).includes(words), await page.text("welcome"));
 }
 
@@ -769,7 +795,8 @@ function lettersInPage() {
 
 /** A line of the story has 65 to 75 letters where there is room, and text of another size is so for all of the page. */
 async function measure(page) {
-    const words = `${"The path winds between rocks and heather, and north of it stands the lighthouse of the island. ".repeat(9)}\n>`;
+    const sentence = "The path winds between rocks and heather, and north of it stands the lighthouse of the island. ";
+    const words = `${sentence.repeat(9)}\n>`;
     await page.fresh();
     await page.drop(telling(words), "long.z5");
     await page.until(() => document.getElementById("title").title === "long.z5");
@@ -786,7 +813,8 @@ async function measure(page) {
     await page.browser.press("End");
     await page.until(() => document.getElementById("size").value === "1.5");
     const after = await sizes();
-    same(after.map((it, i) => Math.round(10 * it / before[i])).join(), before.map(() => 15).join(), "the sizes of letters");
+    same(after.map((it, i) => Math.round(10 * it / before[i])).join(), before.map(() => 15).join(),
+        "the sizes of letters");
     await page.leave();
     return `${Math.round(mean)} letters`;
 }

@@ -1,7 +1,7 @@
 // Runs tests in pages that conformance/plant_web.py has changed, each up to the first test that refuses it.
 //
-// Each line of standard input is {"page": FILE, "cases": [[NAME, WAIT, LIMIT]..]}, with milliseconds. For each case a line
-// comes out: {"name": .., "refused": .., "came": [..], "ms": ..}, and after the last one {"end": true}.
+// Each line of standard input is {"page": FILE, "cases": [[NAME, WAIT, LIMIT]..]}, with milliseconds. For each case a
+// line comes out: {"name": .., "refused": .., "came": [..], "ms": ..}, and after the last one {"end": true}.
 
 import { createInterface } from "node:readline";
 import { CASES } from "./cases.mjs";
@@ -43,7 +43,7 @@ async function refusalOf(browser, file, name, limit) {
     const errors = browser.errors().length;
     const run = async () => {
         // (other tests begin so by themselves)
-        if (name === "starts" || name === "fetches nothing")
+        if (name === "starts")
             await page.fresh();
         await does.get(name)(page);
     };

@@ -28,7 +28,8 @@ function optionsOf(words) {
 /** The tools that look at the sources, and how they are called. */
 const TOOLS = [
     ["the TypeScript compiler", "tsc", ["-p", join(ROOT, "web/page")]],
-    ["eslint", "eslint", ["-f", "unix", "--no-eslintrc", "-c", join(ROOT, "web/eslint.json"), "--ext", ".js,.mjs", join(ROOT, "web/page"),
+    ["eslint", "eslint", ["-f", "unix", "--no-eslintrc", "-c", join(ROOT, "web/eslint.json"), "--ext", ".js,.mjs",
+        join(ROOT, "web/page"),
         join(ROOT, "web/page_tests")]],
 ];
 
@@ -117,6 +118,7 @@ export async function main(words) {
     const tools = options.case ? [] : TOOLS.map(runTool);
     const failed = await Promise.all(here.map(([Browser]) => runBrowser(Browser, options, cases)));
     const sum = [...tools, ...failed].reduce((all, count) => all + count, 0);
-    console.log(`${here.length} browsers, ${cases.length} tests each, ${sum} failed, ${Math.round((Date.now() - began) / 1000)} s`);
+    const seconds = Math.round((Date.now() - began) / 1000);
+    console.log(`${here.length} browsers, ${cases.length} tests each, ${sum} failed, ${seconds} s`);
     return sum > 0 ? 1 : 0;
 }

@@ -1,5 +1,5 @@
-// The screen of a story: its width, by the page's, and the styles of both windows. It is screen.z5 that is played, by keys, the
-// mouse and the size of the browser's window.
+// The screen of a story: its width, by the page's, and the styles of both windows. It is screen.z5 that is played, by
+// keys, the mouse and the size of the browser's window.
 
 import { EXAMPLES, MENU, SCREEN, holds, join, native, pause, readFileSync, same } from "./page.mjs";
 import { looking } from "./stories.mjs";
@@ -13,7 +13,8 @@ function upperInPage() {
     const [grid] = upper.querySelectorAll(".grid");
     const looks = (it) => {
         const { fontWeight, fontStyle, color, backgroundColor } = getComputedStyle(it);
-        return `${fontWeight} ${fontStyle} ${backgroundColor === "rgba(0, 0, 0, 0)" ? "" : `${color} on ${backgroundColor}`}`;
+        const ground = backgroundColor === "rgba(0, 0, 0, 0)" ? "" : `${color} on ${backgroundColor}`;
+        return `${fontWeight} ${fontStyle} ${ground}`;
     };
     const rows = [[]];
     for (const node of grid ? grid.childNodes : [])
@@ -27,9 +28,11 @@ function upperInPage() {
         });
     const { paddingLeft, paddingRight } = getComputedStyle(upper);
     return {
-        rows, bars: [...upper.querySelectorAll(".bar span")].map((it) => it.textContent).join("|"), hasGrid: Boolean(grid),
+        rows, bars: [...upper.querySelectorAll(".bar span")].map((it) => it.textContent).join("|"),
+        hasGrid: Boolean(grid),
         size: grid ? parseFloat(getComputedStyle(grid).fontSize) : 0, tab: upper.tabIndex,
-        room: upper.clientWidth - parseFloat(paddingLeft) - parseFloat(paddingRight), hidden: upper.scrollWidth - upper.clientWidth,
+        room: upper.clientWidth - parseFloat(paddingLeft) - parseFloat(paddingRight),
+        hidden: upper.scrollWidth - upper.clientWidth,
         over: document.documentElement.scrollWidth - document.documentElement.clientWidth,
         ground: getComputedStyle(upper).backgroundColor, ink: getComputedStyle(document.body).color,
         paper: getComputedStyle(document.body).backgroundColor,
@@ -48,7 +51,8 @@ async function toldColumns(page) {
 const rowOf = (text, columns) => ` ${text}`.padEnd(columns);
 
 /** The status line by screen.inf: its right part begins ten columns before the last one. */
-const statusOf = (turns, columns) => rowOf("The glass room", columns).slice(0, columns - 11) + `Turns: ${turns}`.padEnd(11);
+const statusOf = (turns, columns) => rowOf("The glass room", columns).slice(0, columns - 11)
+    + `Turns: ${turns}`.padEnd(11);
 
 /** Looks whether nothing has to be scrolled sideways. */
 function wantFits({ hidden, over, tab }, what) {
@@ -102,7 +106,8 @@ async function statusLine(page) {
             holds(isNarrow ? columns >= 35 && columns < 80 : columns >= 80, `${what}: ${columns} columns are told`);
             holds(upper.size >= (isNarrow ? 12 : 11), `${what}: the letters are ${upper.size} high`);
             const one = 12 * upper.rows[0][0].width / columns / upper.size;
-            holds(!isNarrow || (columns + 1) * one > upper.room - 1, `${what}: there is room for more than ${columns} columns`);
+            holds(!isNarrow || (columns + 1) * one > upper.room - 1,
+                `${what}: there is room for more than ${columns} columns`);
             same(await page.focus(), "line 0", `${what}: the focus`);
             await page.say("styles");
             wantReverse(await upperOf(page), 0, statusOf(1, columns), columns, `${what}, after a line`);
@@ -125,7 +130,8 @@ async function menu(page) {
                 holds(upper.ground !== upper.ink, `${what}: the ground is in reverse too`);
                 wantReverse(upper, place + 1, rowOf(names[place - 1], columns), columns, `${what}, place ${place}`);
                 const others = upper.rows.slice(2).map((row) => row.map(({ kind, text }) => `${kind}${text}`).join());
-                names.forEach((name, i) => i === place - 1 || same(others[i], ` ${name}`, `${what}: the row of ${name}`));
+                names.forEach((name, i) => i === place - 1
+                    || same(others[i], ` ${name}`, `${what}: the row of ${name}`));
                 const head = upper.rows[0].map(({ kind, text }) => `${kind}|${text}`).join();
                 same(head, `|${" ".repeat(Math.floor((columns - 11) / 2))},bold|What to see`, `${what}: its head`);
                 same(upper.rows[0][1].looks, "700 normal ", `${what}: how its head looks`);
@@ -145,7 +151,8 @@ async function menu(page) {
             await page.browser.press("Enter");
             await page.until(() => document.getElementById("scroller").textContent.includes("You look at the sky."));
             await page.rests();
-            const italics = await page.run(() => [...document.querySelectorAll("#scroller .italic")].map((it) => it.textContent).join());
+            const italics = await page.run(() =>
+                [...document.querySelectorAll("#scroller .italic")].map((it) => it.textContent).join());
             same(italics, "the sky", `${what}: what is italic below it`);
             await page.browser.press("ArrowLeft");
             await page.until(() => document.getElementById("asked").textContent !== "Press a key");
@@ -158,16 +165,21 @@ async function menu(page) {
 /** Text has all styles and the font of a fixed pitch, and what is erased makes room for what comes. */
 async function lower(page) {
     await opened(page);
-    holds((await page.text("scroller")).includes("80 columns, bold text, italic text, text of a fixed pitch."), await page.text("scroller"));
+    holds((await page.text("scroller")).includes("80 columns, bold text, italic text, text of a fixed pitch."),
+        await page.text("scroller"));
     same(await page.text("title"), "A ROOM OF GLASS", "the head of the page");
     await page.say("styles");
-    const parts = await page.run(() => [...[...document.querySelectorAll("#scroller .text")].pop().children].map((it) => {
-        const { fontWeight, fontStyle, fontFamily } = getComputedStyle(it);
-        return `${it.className}:${it.textContent}:${fontWeight} ${fontStyle} ${/mono/i.test(fontFamily)}`;
-    }).join("|"));
-    same(parts, "bold:Bold:700 normal false|italic:italic:400 italic false|reverse:reverse:400 normal false|fixed:fixed:400 normal true"
-        + "|fixed:font 4 after font 1:400 normal true", "the styles of the text");
-    holds((await page.text("scroller")).includes("fixed and font 4 after font 1 and font 1 after font 4.\n"), "what set_font answers");
+    const parts = await page.run(() => {
+        const last = [...document.querySelectorAll("#scroller .text")].pop();
+        return [...last.children].map((it) => {
+            const { fontWeight, fontStyle, fontFamily } = getComputedStyle(it);
+            return `${it.className}:${it.textContent}:${fontWeight} ${fontStyle} ${/mono/i.test(fontFamily)}`;
+        }).join("|");
+    });
+    same(parts, "bold:Bold:700 normal false|italic:italic:400 italic false|reverse:reverse:400 normal false"
+        + "|fixed:fixed:400 normal true|fixed:font 4 after font 1:400 normal true", "the styles of the text");
+    holds((await page.text("scroller")).includes("fixed and font 4 after font 1 and font 1 after font 4.\n"),
+        "what set_font answers");
 }
 
 /** In the page: the lines of the story that are seen, as far as they are. */
@@ -175,7 +187,8 @@ function seenInPage() {
     const { top, bottom } = document.getElementById("scroller").getBoundingClientRect();
     const seen = [...document.querySelectorAll("#scroller .text, #scroller .typed")].filter((it) => {
         const rects = [...it.getClientRects()];
-        return rects.some((rect) => rect.bottom > top + 16 && rect.top < bottom && rect.height > 0) && it.textContent.trim();
+        return rects.some((rect) => rect.bottom > top + 16 && rect.top < bottom && rect.height > 0)
+            && it.textContent.trim();
     });
     return seen.map((it) => it.textContent.trim().replace(/[\s,.][^]*/, "")).join();
 }
@@ -186,11 +199,13 @@ async function erased(page) {
         await inWindow(page, size, async () => {
             await opened(page);
             await page.say("nothing");
-            const wants = async (wanted, what) => same(await page.run(seenInPage), wanted, `what is seen ${what} in ${size[0]} pixels`);
+            const wants = async (wanted, what) =>
+                same(await page.run(seenInPage), wanted, `what is seen ${what} in ${size[0]} pixels`);
             await wants("A,nothing,Nothing", "before an erasure");
             await page.say("clear");
             await wants("All", "after an erasure");
-            const top = await page.run(() => [...document.querySelectorAll("#scroller .text")].pop().getBoundingClientRect().top
+            const top = await page.run(() =>
+                [...document.querySelectorAll("#scroller .text")].pop().getBoundingClientRect().top
                 - document.getElementById("scroller").getBoundingClientRect().top);
             holds(top >= 0 && top < 40, `the text after an erasure is at ${top}`);
             same(await page.focus(), "line 0", "the focus after an erasure");
@@ -280,7 +295,8 @@ async function restarted(page) {
     await page.until(() => document.getElementById("asking").open || !document.querySelector("dialog[open]"));
     if (await page.isShown("asking"))
         await page.click("#asking-yes");
-    await page.until(() => !document.querySelector("dialog[open]") && !document.getElementById("scroller").textContent.includes("80 columns"));
+    await page.until(() => !document.querySelector("dialog[open]")
+        && !document.getElementById("scroller").textContent.includes("80 columns"));
     await page.rests();
 }
 
@@ -291,7 +307,8 @@ async function otherPage(page) {
         same(await opened(page), 80, "the columns in a wide page");
         await page.say("styles");
         let upper = await reloaded(page, PHONE);
-        same(`${upper.hasGrid} ${upper.bars}`, "false The glass room|Turns: 1", "the status line of 80 columns in a narrow page");
+        same(`${upper.hasGrid} ${upper.bars}`, "false The glass room|Turns: 1",
+            "the status line of 80 columns in a narrow page");
         wantFits(upper, "the status line of 80 columns in a narrow page");
         await page.say("look");
         upper = await upperOf(page);
@@ -340,7 +357,9 @@ async function shown(page, file) {
     return page.told();
 }
 
-/** A play that is shared has its width, so that its text is the same in a page of another one; without one it has 80. */
+/**
+ * A play that is shared has its width, so that its text is the same in a page of another one; without one it has 80.
+ */
 async function sharedPlay(page) {
     const narrow = await inWindow(page, PHONE, async () => {
         await opened(page);
@@ -351,7 +370,8 @@ async function sharedPlay(page) {
         await page.fresh();
         const words = await shown(page, narrow);
         holds(words.includes("letter by letter"), `of a play in ${narrow.columns} columns: ${words}`);
-        same((await upperOf(page)).rows[0][0].text, statusOf(2, narrow.columns), "the status line of a play that is shown");
+        same((await upperOf(page)).rows[0][0].text, statusOf(2, narrow.columns),
+            "the status line of a play that is shown");
         await opened(page);
         await page.say("clear");
         return sharedFile(page);
@@ -379,13 +399,14 @@ async function dropped(page, story, name) {
 }
 
 /**
- * Code that looks for the width, and code that does not: loadb 0 33, loadb 33 0, loadw 0 17, loadw 17 0, a call of a routine
- * with 0 and 33; loadb 0 32, loadb 1 33, loadw 0 33, loadw 33 0, loadb 17 0, add 0 33, a call with 1 and 33.
+ * Code that looks for the width, and code that does not: loadb 0 33, loadb 33 0, loadw 0 17, loadw 17 0, a call of a
+ * routine with 0 and 33; loadb 0 32, loadb 1 33, loadw 0 33, loadw 33 0, loadb 17 0, add 0 33, a call with 1 and 33.
  */
 const LOOKS = [
     [[0x10, 0, 33, 0x10], true], [[0x10, 33, 0, 0x10], true], [[0x0f, 0, 17, 0x10], true], [[0x0f, 17, 0, 0x10], true],
     [[0xe0, 0x17, 0, 0, 0, 33, 0x10], true], [[0x10, 0, 32, 0x10], false], [[0x10, 1, 33, 0x10], false],
-    [[0x0f, 0, 33, 0x10], false], [[0x0f, 33, 0, 0x10], false], [[0x10, 17, 0, 0x10], false], [[0x14, 0, 33, 0x10], false],
+    [[0x0f, 0, 33, 0x10], false], [[0x0f, 33, 0, 0x10], false], [[0x10, 17, 0, 0x10], false],
+    [[0x14, 0, 33, 0x10], false],
     [[0xe0, 0x17, 0, 0, 1, 33, 0x10], false],
 ];
 
@@ -394,13 +415,15 @@ async function usualWidth(page) {
     await inWindow(page, PHONE, async () => {
         await page.fresh();
         await page.open(MENU);
-        same((await upperOf(page)).bars, "The hall|Turns: 0", "the status line of a story that does not look for the width");
+        same((await upperOf(page)).bars, "The hall|Turns: 0",
+            "the status line of a story that does not look for the width");
         await page.say("roll");
         same(await page.transcript(), native(["play", "--echo", MENU], "roll\n").text, "its transcript");
         for (const [i, [code, isLooking]] of LOOKS.entries()) {
             await dropped(page, looking(code, "Once.\n>"), `looks${i}.z5`);
             const { columns } = await sharedFile(page);
-            holds(isLooking ? columns >= 20 && columns < 80 : columns === 80, `${columns} columns for the code ${code}`);
+            holds(isLooking ? columns >= 20 && columns < 80 : columns === 80,
+                `${columns} columns for the code ${code}`);
         }
     });
 }
@@ -418,7 +441,8 @@ async function wrapped(page) {
             const softs = await page.run(() => [...document.querySelectorAll("#scroller .soft")].map((it) =>
                 it.nextSibling.textContent.split("\n")[0].length).join());
             const isUsual = width >= 60 && width <= 80;
-            same(softs, count || isUsual ? "10,1" : "", `the lines of ${width} letters that are joined in ${columns} columns`);
+            same(softs, count || isUsual ? "10,1" : "",
+                `the lines of ${width} letters that are joined in ${columns} columns`);
         }
     });
 }
@@ -448,7 +472,8 @@ async function largeText(page) {
             wantFits({ ...upper, over: width < 300 ? 0 : upper.over }, `text of size ${found.length}`);
         }
         const [[columns, size], [fewer, larger]] = found;
-        holds(fewer < columns && fewer >= 20 && larger > 1.3 * size, `${columns} columns of ${size}, and ${fewer} of ${larger}`);
+        holds(fewer < columns && fewer >= 20 && larger > 1.3 * size,
+            `${columns} columns of ${size}, and ${fewer} of ${larger}`);
     });
     return found.map(([columns, size]) => `${columns} columns of ${Math.round(size * 10) / 10} pixels`).join(", ");
 }
@@ -479,8 +504,8 @@ async function narrowBox(page) {
         same(text, rowOf("The gate", columns - 11) + "Turns: 0", "the status line");
         wantFits(upper, "the status line");
         const box = await page.run(() => [...document.querySelectorAll(".box")].map((it) => it.textContent).join("|"));
-        same(box, "Through me the way into the city of woe,\nthrough me the way into eternal pain\n\n                 -- Dante, Inferno",
-            "the box");
+        same(box, "Through me the way into the city of woe,\nthrough me the way into eternal pain\n\n"
+            + "                 -- Dante, Inferno", "the box");
     });
 }
 

@@ -69,8 +69,8 @@ export function styled() {
 }
 
 /**
- * A story that shows the width of the screen by the bytes 21 and 22 of its header, in characters and in units, writes 260
- * characters of a number in the first row of its upper window, and reads a character.
+ * A story that shows the width of the screen by the bytes 21 and 22 of its header, in characters and in units, writes
+ * 260 characters of a number in the first row of its upper window, and reads a character.
  */
 export function tellingWidth(character) {
     const print = [0xbe, 0x0b, 0x3f, ...word(character)];
@@ -88,24 +88,27 @@ export function looking(code, text) {
 }
 
 /**
- * A story that shows Flags 1 and what set_font answers to 4, 0, 3, 1 and 0, with a letter in the first font and in the last
- * one, and reads a character.
+ * A story that shows Flags 1 and what set_font answers to 4, 0, 3, 1 and 0, with a letter in the first font and in the
+ * last one, and reads a character.
  */
 export function tellingStyles() {
     const font = (number) => [0xbe, 0x04, 0x7f, number, 0x10, ...told(0x10)];
     // loadb 0 1 -> global 0
-    return storyOf([0x10, 0x00, 0x01, 0x10, ...told(0x10), ...font(4), ...printed("a"), ...font(0), ...font(3), ...font(1),
+    return storyOf([0x10, 0x00, 0x01, 0x10, ...told(0x10), ...font(4), ...printed("a"), ...font(0), ...font(3),
+        ...font(1),
         ...printed("b"), ...font(0), ...READ_CHARACTER, 0xba]);
 }
 
 /**
- * A story with three rows in its upper window: in the first one letters of several styles after each other, with spaces in
- * reverse and in roman; in the second one nothing but spaces; in the third one nothing but spaces in reverse. It reads a
- * character, takes the rows away, and reads another one.
+ * A story with three rows in its upper window: in the first one letters of several styles after each other, with spaces
+ * in reverse and in roman; in the second one nothing but spaces; in the third one nothing but spaces in reverse. It
+ * reads a character, takes the rows away, and reads another one.
  */
 export function stylingCells() {
-    const first = [...cursor(1, 1), ...style(1), ...printed("ab  "), ...style(0), ...cursor(1, 8), ...style(2), ...printed("c"),
-        ...style(4), 0xbe, 0x0b, 0x3f, ...word(0x20ac), ...style(0), ...style(8), ...printed("e"), ...style(0), ...printed("f")];
+    const first = [...cursor(1, 1), ...style(1), ...printed("ab  "), ...style(0), ...cursor(1, 8), ...style(2),
+        ...printed("c"),
+        ...style(4), 0xbe, 0x0b, 0x3f, ...word(0x20ac), ...style(0), ...style(8), ...printed("e"), ...style(0),
+        ...printed("f")];
     const others = [...cursor(2, 1), ...printed("    "), ...cursor(3, 2), ...style(1), ...printed("   "), ...style(0)];
     return storyOf([0xea, 0x7f, 0x03, 0xeb, 0x7f, 0x01, ...first, ...others, 0xeb, 0x7f, 0x00, ...READ_CHARACTER,
         0xea, 0x7f, 0x00, ...READ_CHARACTER, 0xba]);
@@ -130,14 +133,16 @@ export function echoingKeys() {
 
 /** A story with a row in its upper window that saves, restores, and reads a character. */
 export function restoringWindow() {
-    // split_window 1; save -> global 16; je global 16, 2 ?read; restore -> global 17; read: read_char 1 -> global 18; quit
+    // split_window 1; save -> global 16; je global 16, 2 ?read; restore -> global 17; read: read_char 1 -> global 18;
+    // quit
     return storyOf([0xea, 0x7f, 0x01, 0xbe, 0x00, 0xff, 0x10, 0x41, 0x10, 0x02, 0xc6, 0xbe, 0x01, 0xff, 0x11,
         0xf6, 0x7f, 0x01, 0x12, 0xba]);
 }
 
 /** A story that prints a line in bold and a text in roman, and then reads lines. */
 export function titled(title, text) {
-    return storyOf([...style(2), ...printed(title), ...style(0), ...printed(`\n${text}`), ...READ, ...jumpBack(READ.length)]);
+    return storyOf([...style(2), ...printed(title), ...style(0), ...printed(`\n${text}`), ...READ,
+        ...jumpBack(READ.length)]);
 }
 
 /** A story that reads a line, and then saves again and again, whatever is answered. */
@@ -151,10 +156,14 @@ export function restoring(count, text) {
     return storyOf([...restores, ...printed(text), ...READ, ...jumpBack(READ.length)]);
 }
 
-/** A story that prints a text, runs twelve million instructions and prints another one before each line that it reads. */
+/**
+ * A story that prints a text, runs twelve million instructions and prints another one before each line that it reads.
+ */
 export function counting(text, before = "") {
-    // store global 1, 0; store global 0, 0; inc_chk global 0, 30000 ?~ again; inc_chk global 1, 399 ?~ back to the second one
-    const count = [0x0d, 0x11, 0, 0x0d, 0x10, 0, 0xc5, 0x4f, 0x10, 0x75, 0x30, 0x3f, 0xfb, 0xc5, 0x4f, 0x11, 0x01, 0x8f, 0x3f, 0xf1];
+    // store global 1, 0; store global 0, 0; inc_chk global 0, 30000 ?~ again; inc_chk global 1, 399 ?~ back to the
+    // second one
+    const count = [0x0d, 0x11, 0, 0x0d, 0x10, 0, 0xc5, 0x4f, 0x10, 0x75, 0x30, 0x3f, 0xfb, 0xc5, 0x4f, 0x11, 0x01, 0x8f,
+        0x3f, 0xf1];
     const all = [...printed(before), ...count, ...printed(text), ...READ];
     return storyOf([...all, ...jumpBack(all.length)]);
 }

@@ -1,4 +1,5 @@
-// How a reader uses the page: lines, keys and the arrows, Undo and the list of lines, other stories, and what is inside.
+// How a reader uses the page: lines, keys and the arrows, Undo and the list of lines, other stories, and what is
+// inside.
 
 import { randomBytes } from "node:crypto";
 import { writeFileSync } from "node:fs";
@@ -7,7 +8,8 @@ import { asking, counting, repeating, restoring, styled, telling, tellingStatus 
 
 const Z5 = join(EXAMPLES, "lighthouse.z5");
 
-const typedLines = () => [...document.querySelectorAll("#scroller .typed")].map((it) => it.textContent.trimEnd()).join();
+const typedLines = () =>
+    [...document.querySelectorAll("#scroller .typed")].map((it) => it.textContent.trimEnd()).join();
 const lineNow = () => document.getElementById("line").value;
 
 /** Drops a story, and waits for its first read. */
@@ -34,7 +36,8 @@ async function arrows(page) {
     await page.fresh();
     await page.open(MENU);
     await page.sayAll(["look", "hello", "hello", "", "jump"]);
-    const keys = [["ArrowUp", "jump"], ["ArrowUp", "hello"], ["ArrowUp", "look"], ["ArrowUp", "look"], ["ArrowDown", "hello"],
+    const keys = [["ArrowUp", "jump"], ["ArrowUp", "hello"], ["ArrowUp", "look"], ["ArrowUp", "look"],
+        ["ArrowDown", "hello"],
         ["ArrowDown", "jump"], ["ArrowDown", ""], ["ArrowDown", ""], ["ArrowUp", "jump"]];
     for (const [i, [key, line]] of keys.entries()) {
         await page.browser.press(key);
@@ -72,7 +75,8 @@ async function keysByButtons(page) {
     await page.until(() => document.getElementById("asked").textContent !== "Press a key");
     same(await page.isShown("space"), false, "whether a line has a button for Space");
     await page.lines();
-    const list = await page.run(() => [...document.querySelectorAll("#line-list li")].map((it) => it.textContent).join());
+    const list = await page.run(() =>
+        [...document.querySelectorAll("#line-list li")].map((it) => it.textContent).join());
     same(list, "(an empty line),menu,key Space,key n,key Enter,key q", "the list of lines");
 }
 
@@ -81,14 +85,16 @@ async function lettersAnywhere(page) {
     await page.fresh();
     await page.open(MENU);
     const leave = { escape: () => page.leave(), mouse: () => page.click("dialog[open] .head button") };
-    for (const [button, id] of [["show-lines", "show-lines"], ["show-menu", "show-menu"], ["show-inside", "show-inside"]])
+    for (const [button, id] of [["show-lines", "show-lines"], ["show-menu", "show-menu"],
+        ["show-inside", "show-inside"]])
         for (const [how, does] of Object.entries(leave)) {
             await page.click(`#${button}`);
             await page.until(() => document.querySelector("dialog[open]"));
             await does();
             await page.until((it) => document.activeElement.id === it && !document.querySelector("dialog[open]"), id);
             await page.say("look");
-            same((await page.run(typedLines)).split(",").pop(), "look", `what was typed after ${button} was left by ${how}`);
+            same((await page.run(typedLines)).split(",").pop(), "look",
+                `what was typed after ${button} was left by ${how}`);
         }
     await page.lines();
     await page.leave();
@@ -113,7 +119,8 @@ async function undoFar(page) {
     await page.rests();
     await page.say("look");
     await page.lines();
-    const list = await page.run(() => [...document.querySelectorAll("#line-list li")].map((it) => it.textContent).join());
+    const list = await page.run(() =>
+        [...document.querySelectorAll("#line-list li")].map((it) => it.textContent).join());
     same(list, "undo on,north,(Undo),look", "the list of lines");
     await page.leave();
     await page.click("#show-menu");
@@ -179,7 +186,8 @@ async function restoresFirst(page) {
     await page.click("#line-list li:last-child button");
     await page.until(() => document.querySelectorAll("#scroller .typed").length === 1);
     await page.rests();
-    same(await page.run(() => document.querySelector("dialog[open]")?.id ?? ""), "", "the window where a line is gone to");
+    same(await page.run(() => document.querySelector("dialog[open]")?.id ?? ""), "",
+        "the window where a line is gone to");
     same(await page.transcript(), wanted("one\n"), "the transcript before the second line");
 }
 
@@ -203,16 +211,22 @@ async function longLines(page) {
     await page.fresh();
     const text = `${"x".repeat(7000)}\nsecond\nthird\n${"y".repeat(3000)}\n${"z".repeat(5000)}\nlast\n`;
     await play(page, telling(`${text}>`), "lines.z5");
-    const parts = await page.run(() => [...document.querySelectorAll("#scroller .turn span.text")].map((it) => it.textContent));
+    const parts = await page.run(() =>
+        [...document.querySelectorAll("#scroller .turn span.text")].map((it) => it.textContent));
     same(parts.join(""), text, "the text");
-    holds(parts.length > 1 && parts.every((part) => part.endsWith("\n")), `${parts.map((part) => part.slice(-9)).join("|")}`);
+    holds(parts.length > 1 && parts.every((part) => part.endsWith("\n")),
+        `${parts.map((part) => part.slice(-9)).join("|")}`);
 }
 
 /** Text has its styles, beside others in a line too, and what comes after an erasure stands in a part of its own. */
 async function styles(page) {
-    const parts = () => [...document.querySelectorAll("#scroller .text")].map((text) => [...text.childNodes].map((node) =>
-        node.nodeType === Node.TEXT_NODE ? node.textContent : `${node.className}:${node.textContent}`).join("|")).join("/");
-    const looks = () => ["bold", "italic"].map((style) => getComputedStyle(document.querySelector(`#scroller .${style}`)))
+    const parts = () => {
+        const styleOf = (node) => node.nodeType === Node.TEXT_NODE ? "" : `${node.className}:`;
+        return [...document.querySelectorAll("#scroller .text")].map((text) =>
+            [...text.childNodes].map((node) => styleOf(node) + node.textContent).join("|")).join("/");
+    };
+    const looks = () =>
+        ["bold", "italic"].map((style) => getComputedStyle(document.querySelector(`#scroller .${style}`)))
         .map((look) => `${look.fontWeight} ${look.fontStyle}`).join();
     await page.fresh();
     await play(page, styled(), "styled.z5");
@@ -232,7 +246,8 @@ async function startOfAnswer(page) {
         const scroller = document.getElementById("scroller");
         const around = scroller.getBoundingClientRect();
         const typed = document.querySelector("#scroller .typed").getBoundingClientRect();
-        return [around.top, around.bottom, typed.top, scroller.scrollHeight - scroller.clientHeight - scroller.scrollTop];
+        return [around.top, around.bottom, typed.top,
+            scroller.scrollHeight - scroller.clientHeight - scroller.scrollTop];
     });
     holds(line >= top && line < top + (bottom - top) / 4, `the line is at ${line} between ${top} and ${bottom}`);
     holds(left > 100, `${left} pixels are left to read`);
@@ -241,7 +256,8 @@ async function startOfAnswer(page) {
 /** While a file is dragged over the page, the page says where it may be dropped; no longer once it has gone. */
 async function draggedFile(page) {
     const outlined = () => page.run(() => document.body.classList.contains("dragged"));
-    const drag = (kind) => page.run((name) => !dispatchEvent(new DragEvent(name, { bubbles: true, cancelable: true })), kind);
+    const drag = (kind) =>
+        page.run((name) => !dispatchEvent(new DragEvent(name, { bubbles: true, cancelable: true })), kind);
     await page.fresh();
     for (const [kind, isOver] of [["dragenter", true], ["dragleave", false], ["dragover", true], ["drop", false]]) {
         same(await drag(kind), kind !== "dragleave", `whether the page takes ${kind}`);
@@ -290,7 +306,8 @@ async function twelvePlays(page) {
     await page.until(() => document.getElementById("title").title === "story1.z5");
     await page.rests();
     await play(page, story(0), "story0.z5");
-    same(await page.run(() => document.querySelector("dialog[open]")?.id ?? ""), "", "the window at a play that is not kept");
+    same(await page.run(() => document.querySelector("dialog[open]")?.id ?? ""), "",
+        "the window at a play that is not kept");
     same(await page.run(typedLines), "", "the lines of a play that is not kept");
 }
 
@@ -306,7 +323,8 @@ async function otherStory(page) {
     await page.fresh();
     await page.drop(bytes, "menu.play.json");
     await page.until(() => document.getElementById("invitation").textContent.includes("IFID"));
-    const words = `This is a play of menu.z5, 2 lines long. To see it, choose that story's file; its IFID is ${ifids[0]}.`;
+    const words = "This is a play of menu.z5, 2 lines long. "
+        + `To see it, choose that story's file; its IFID is ${ifids[0]}.`;
     same(await page.text("invitation"), words);
     await page.choose(Z5);
     await page.asks("Play a different story?", "Play it", "No");
@@ -353,7 +371,8 @@ async function longestLink(page) {
     await page.lines();
     const file = JSON.parse(readFileSync(await page.fileAfter(() => page.click("#play-file"))));
     await page.leave();
-    const letters = (count) => Array.from({ length: count / 50 }, () => `x${randomBytes(60).toString("base64").slice(0, 49)}`);
+    const letters = (count) =>
+        Array.from({ length: count / 50 }, () => `x${randomBytes(60).toString("base64").slice(0, 49)}`);
     for (const [count, isOffered] of [[7200, true], [9000, false]]) {
         const answers = letters(count);
         await page.drop(Buffer.from(JSON.stringify({ ...file, answers })), "long.play.json");
@@ -380,7 +399,8 @@ async function strangePlays(page) {
     await page.fresh();
     const play0 = { zkit: 1, ifid: "ZCODE-1-261127-15E0", name: "x", story: "", seed: "1", told: "", answers: [] };
     const bad = [
-        { zkit: "1" }, { ifid: 1 }, { name: null }, { story: 1 }, { told: 1 }, { seed: 1 }, { seed: "" }, { seed: "-1" },
+        { zkit: "1" }, { ifid: 1 }, { name: null }, { story: 1 }, { told: 1 }, { seed: 1 }, { seed: "" },
+        { seed: "-1" },
         { seed: "1".repeat(21) }, { answers: "look" }, { answers: [null] }, { answers: [1.5] }, { answers: [0x110000] },
         { answers: [{}] }, { answers: [{ saved: 1 }] }, { answers: [{ restored: "" }] }, { answers: [{ undo: 1 }] },
         { answers: [{ fresh: false }] }, { name: "x".repeat(301) },
@@ -391,7 +411,8 @@ async function strangePlays(page) {
         await page.until((it) => document.getElementById("told").textContent === it,
             `bad${i}.json: this play can't be shown: ${words}.`);
     }
-    const answers = ["look", 0x10ffff, 0, { saved: true }, { restored: null }, { restored: "AA==" }, { undo: true }, { fresh: true }];
+    const answers = ["look", 0x10ffff, 0, { saved: true }, { restored: null }, { restored: "AA==" }, { undo: true },
+        { fresh: true }];
     const longest = Array.from({ length: 20000 - answers.length }, (_, i) => i ? "x" : "x".repeat(255));
     const good = { name: "y".repeat(300), seed: "1".repeat(20), answers: [...answers, ...longest] };
     await page.drop(Buffer.from(JSON.stringify({ ...play0, ...good })), "good.json");
@@ -402,7 +423,8 @@ async function strangePlays(page) {
 async function seeds(page) {
     await page.fresh();
     await page.open(MENU);
-    const tries = [["4294967303", "4294967303"], ["18446744073709551615", "18446744073709551615"], ["18446744073709551616", "1"],
+    const tries = [["4294967303", "4294967303"], ["18446744073709551615", "18446744073709551615"],
+        ["18446744073709551616", "1"],
         ["twelve", "1"], ["0", "0"]];
     for (const [typed, seed] of tries) {
         await page.click("#show-menu");
@@ -414,26 +436,31 @@ async function seeds(page) {
         await page.until(() => !document.querySelector("#scroller .typed"));
         await page.rests();
         await page.say("roll");
-        same(await page.transcript(), native(["play", "--echo", "--seed", seed, MENU], "roll\n").text, `the seed ${typed}`);
+        same(await page.transcript(), native(["play", "--echo", "--seed", seed, MENU], "roll\n").text,
+            `the seed ${typed}`);
     }
 }
 
 /** The status line of version 3, and rows in a narrow page. */
 async function statusLines(page) {
-    const bar = () => page.run(() => [...document.querySelectorAll("#upper .bar span")].map((it) => it.textContent).join("|"));
+    const bar = () =>
+        page.run(() => [...document.querySelectorAll("#upper .bar span")].map((it) => it.textContent).join("|"));
     await page.fresh();
-    for (const [flags, first, second, wanted] of [[0, -5, 300, "ab|Score: -5  Turns: 300"], [2, 13, 5, "ab|Time: 13:05"]]) {
+    const figures = [[0, -5, 300, "ab|Score: -5  Turns: 300"], [2, 13, 5, "ab|Time: 13:05"]];
+    for (const [flags, first, second, wanted] of figures) {
         await play(page, tellingStatus(flags, first, second), `status${flags}.z3`);
         same(await bar(), wanted, "the status line");
     }
     await page.open(MENU);
-    same(await page.run(() => document.querySelectorAll("#upper .grid").length), 1, "the number of grids in a wide page");
+    same(await page.run(() => document.querySelectorAll("#upper .grid").length), 1,
+        "the number of grids in a wide page");
     await page.browser.size(360, 640);
     try {
         await page.until(() => !document.querySelector("#upper .grid"));
         same(await bar(), "The hall|Turns: 0", "the row in a narrow page");
         await page.say("menu");
-        same(await page.run(() => document.querySelectorAll("#upper .grid").length), 1, "the number of grids of a tall window");
+        same(await page.run(() => document.querySelectorAll("#upper .grid").length), 1,
+            "the number of grids of a tall window");
     } finally {
         await page.browser.size(1100, 800);
     }
@@ -470,27 +497,88 @@ async function tabs(page) {
     for (const [key, name] of keys) {
         await page.browser.press(key);
         same(await page.run(() => document.activeElement.id), `tab-${name}`, `the tab after ${key}`);
-        same(await page.run(() => document.querySelector("[aria-selected=true]").id), `tab-${name}`, `the tab shown after ${key}`);
+        same(await page.run(() => document.querySelector("[aria-selected=true]").id), `tab-${name}`,
+            `the tab shown after ${key}`);
     }
     await page.until(() => document.getElementById("panel").getAttribute("aria-busy") === "false");
     const tabNames = await page.run(() => [...document.querySelectorAll("[role=tab]")].map((it) => it.textContent));
     same(tabNames.join(), "Check,Header,Map,Objects,Tree,Dictionary,Texts,Code", "the names of the tabs");
-    const controls = await page.run(() => [...document.querySelectorAll("[role=tab]")].map((it) => it.getAttribute("aria-controls")));
+    const controls = await page.run(() =>
+        [...document.querySelectorAll("[role=tab]")].map((it) => it.getAttribute("aria-controls")));
     same([...new Set(controls)].join(), "panel", "what the tabs control");
     const length = readFileSync(Z5).length;
     const lines = native(["info", "--map", Z5]).text.trimEnd().split("\n").slice(1);
     const starts = [...lines.map((line) => parseInt(line.slice(0, 5), 16)), length];
-    const sizes = lines.map((line, i) => `${line.slice(6)}, ${(starts[i + 1] - starts[i]).toLocaleString("en-US")} bytes`);
-    const legend = await page.run(() => [...document.querySelectorAll(".legend li")].map((it) => it.textContent.replace(/ byte$/, " bytes")));
+    const sizes = lines.map((line, i) =>
+        `${line.slice(6)}, ${(starts[i + 1] - starts[i]).toLocaleString("en-US")} bytes`);
+    const legend = await page.run(() =>
+        [...document.querySelectorAll(".legend li")].map((it) => it.textContent.replace(/ byte$/, " bytes")));
     same(legend.join("|"), sizes.join("|"), "the legend of the map");
     for (const [tab, word] of [["dictionary", "LANTERN"], ["tree", "jetty"], ["tree", "JETTY"]]) {
         await page.click(`#tab-${tab}`);
         await page.until(() => document.getElementById("panel").getAttribute("aria-busy") === "false");
         await page.click("#find");
         await page.browser.write(word);
-        await page.until((it) => [...document.querySelectorAll("#listing .row-line")].map((row) => row.textContent.toLowerCase()).join()
+        await page.until((it) =>
+            [...document.querySelectorAll("#listing .row-line")].map((row) => row.textContent.toLowerCase()).join()
             .match(new RegExp(`^[^,]*${it}\\b[^,]*$`)), word.toLowerCase());
     }
+}
+
+/** What a part of the map is, and the tab that it leads to. */
+const PARTS = {
+    header: ["the fields that describe the story", "header"],
+    abbreviations: ["texts that other texts use", "abbreviations"],
+    objects: ["rooms, things and people, with their properties", "objects"],
+    globals: ["the story's global variables", ""],
+    static: ["data that the story can't change", ""], dictionary: ["the words that the story knows", "dictionary"],
+    high: ["routines and texts", "code"], start: ["the first instruction that runs", "code"],
+};
+
+/** The parts of the map say what they are, and lead to their listings: by the mouse, a finger and a key. */
+async function mapLeads(page) {
+    const map = async () => {
+        await page.click("#tab-map");
+        await page.until(() => document.querySelector(".legend button"));
+    };
+    const leads = async (tab, how) => {
+        await page.until((it) => document.querySelector("[aria-selected=true]").id === `tab-${it}`, tab);
+        await page.until(() => document.getElementById("panel").getAttribute("aria-busy") === "false");
+        same(await page.focus(), `tab-${tab} -`, `the focus after ${how}`);
+        holds(await page.run(() => document.querySelector("#listing .row-line")), `${tab} has no lines after ${how}`);
+    };
+    await page.fresh();
+    await page.open(Z5);
+    await page.click("#show-inside");
+    await map();
+    const titles = (selector) =>
+        page.run((it) => [...document.querySelectorAll(it)].map(({ title }) => title).join("|"), selector);
+    same(await page.text("panel-words"),
+        "Where the parts of the story begin, to scale. Choose a part to go to its listing.");
+    const wanted = Object.entries(PARTS).map(([name, [words]]) => `${name}: ${words}`).join("|");
+    same(await titles(".legend li"), wanted, "the titles in the legend");
+    same(await titles(".scale i"), wanted, "the titles in the bar");
+    for (const [i, [name, [, tab]]] of Object.entries(PARTS).entries()) {
+        const entry = `.legend li:nth-child(${i + 1})`;
+        const hasButton = await page.run((it) => document.querySelector(`${it} button`) !== null, entry);
+        same(hasButton, tab !== "", `whether ${name} leads to a listing`);
+        if (!hasButton)
+            continue;
+        await page.click(`${entry} button`);
+        await leads(tab, `a click on ${name}`);
+        await map();
+        await page.tap(`${entry} button`);
+        await leads(tab, `a tap on ${name}`);
+        await map();
+    }
+    await page.click(".scale i:nth-child(3)");
+    await leads("objects", "a click in the bar");
+    await map();
+    await page.browser.press("Tab");
+    while (await page.run(() => !document.activeElement.closest(".legend")))
+        await page.browser.press("Tab");
+    await page.browser.press("Enter");
+    await leads("header", "Enter in the legend");
 }
 
 /** What each finding means is what the notes of the program say. */
@@ -523,7 +611,8 @@ async function meanings(page) {
         found.forEach((line) => seen.add(line.split(":")[0]));
         await page.leave();
     }
-    const kinds = readFileSync(join(ROOT, "docs/manual/listings.md"), "utf8").match(/^\| `C\d+` /gm).map((it) => it.slice(3, -2));
+    const kinds = readFileSync(join(ROOT, "docs/manual/listings.md"), "utf8").match(/^\| `C\d+` /gm).map((it) =>
+        it.slice(3, -2));
     same([...seen].sort().join(), kinds.sort().join(), "the kinds of findings that were shown");
 }
 
@@ -554,10 +643,13 @@ async function codeLinks(page) {
         await page.click("#show-inside");
         await page.click("#tab-code");
         await page.until(() => document.querySelector("#listing a"));
-        const links = await page.run(() => [...document.querySelectorAll("#listing a")].map((it) => `${it.textContent} ${it.hash.slice(1)}`));
-        const rows = await page.run(() => [...document.querySelectorAll("#listing .row-line")].map((it) => it.textContent.trimEnd()));
+        const links = await page.run(() =>
+            [...document.querySelectorAll("#listing a")].map((it) => `${it.textContent} ${it.hash.slice(1)}`));
+        const rows = await page.run(() =>
+            [...document.querySelectorAll("#listing .row-line")].map((it) => it.textContent.trimEnd()));
         const wanted = linksOf(rows, native(["disasm", path]).text.split("\n"), readFileSync(path), version);
-        same(links.filter((link) => /^....\s/.test(link)).join(), wanted.join(), `the links to routines in version ${version}`);
+        same(links.filter((link) => /^....\s/.test(link)).join(), wanted.join(),
+            `the links to routines in version ${version}`);
         const others = links.filter((link) => !/^....\s/.test(link) && link.slice(0, 5) !== link.slice(6));
         same(others.join(), "", `the links to another address in version ${version}`);
         holds(wanted.length > 5, `version ${version} has ${wanted.length} links to routines`);
@@ -593,6 +685,7 @@ export const USING = [
     ["status lines, and rows in a narrow page", statusLines],
     ["titles and names of files", names],
     ["tabs by keys, and the sizes of the map", tabs],
+    ["the parts of the map lead to their listings", mapLeads],
     ["what findings mean", meanings],
     ["links in the code", codeLinks],
 ];
