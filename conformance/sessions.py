@@ -24,7 +24,7 @@ from pathlib import Path
 from typing import Any
 
 from case_files import Book, Written
-from cases import ANY, LeftOut, begins, has, run_cases, same, shown, shown_up_to, text_of
+from cases import ANY, LeftOut, Wanted, begins, has, run_cases, same, shown, shown_up_to, text_of
 from ending import end_with
 
 BOOK = Book(Path(__file__).with_name("sessions.cases"))
@@ -59,7 +59,7 @@ class Asked(Written):
         shutil.copy2(self.command[-1], self.folder / program)
         return [*self.command[:-1], str(self.folder / program)]
 
-    def own_page(self, words: str, wanted: object = (0, "", ""), made: bytes | None = None, page: bytes = PAGE) -> None:
+    def own_page(self, words: str, wanted: Wanted = (0, "", ""), made: bytes | None = None, page: bytes = PAGE) -> None:
         """What a program with a page of its own makes of words: `made` in `out.html`."""
         self.command, before = self.with_page(page), self.command
         try:
