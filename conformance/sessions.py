@@ -160,6 +160,8 @@ class Sessions(Asked):
         came = self.at_terminal("play --styles --width 20 styled_words.z5")
         same("\x1b[0;1mquick brown\x1b[0m the lazy\ndog", came)
         same("quick brown the lazy\ndog", self.at_terminal("play --width 20 styled_words.z5"))
+        came = self.at_terminal("play --styles --width 20 styled_lines.z5")
+        same("\x1b[0;1mthe quick brown fox\x1b[0m\n\x1b[0;1mjumps\x1b[0m over", came)
 
     def rows_are_shown_in_styles(self) -> None:
         """A box has the styles of its cells, and its bar is plain."""

@@ -31,13 +31,18 @@ pub fn style_in(number: u8) -> Style
     Style::roman().set(u16::from(number))
 }
 
-/// A target over a terminal, which shows there the styles that a text has as marks, if it is on.
+/// A target over a terminal, which shows there the styles that a text has as marks, if it is on. The end of a line is
+/// shown in none, also where a line was wrapped within a style.
 #[derive(Drop)]
 pub struct StyleCodes<T> {
     inner: T,
     is_on: bool,
     /// Whether the number of a mark comes next.
     in_mark: bool,
+    /// The style of the text that comes next.
+    wanted: Style,
+    /// The style that the terminal has.
+    selected: Style,
 }
 
 impl<T> StyleCodes<T> {
@@ -48,12 +53,56 @@ impl<T> StyleCodes<T> {
             inner,
             is_on,
             in_mark: false,
+            wanted: Style::roman(),
+            selected: Style::roman(),
         }
     }
 }
 
 impl<T: Target> StyleCodes<T> {
-    /// Takes a part of a text with marks: up to the next one, or a byte of one.
+    /// Selects a style, if the terminal has another.
+    fn select(&mut self, style: Style) -> Result<(), Failed>
+        ensures on { self.new.is_on ≡ self.old.is_on }
+        ensures failed { T.failed self.new.inner ≡ (is_err result || T.failed self.old.inner) }
+    {
+        if style == self.selected {
+            return Ok(());
+        }
+        write_all(&mut self.inner, code_of(style))?;
+        self.selected = style;
+        Ok(())
+    }
+
+    /// Takes the number of a mark. Roman is selected at once, and another style where there is text of it.
+    fn take_number(&mut self, number: u8) -> Result<(), Failed>
+        ensures on { self.new.is_on ≡ self.old.is_on }
+        ensures failed { T.failed self.new.inner ≡ (is_err result || T.failed self.old.inner) }
+    {
+        self.in_mark = false;
+        self.wanted = style_in(number.wrapping_sub(128));
+        if self.wanted == Style::roman() {
+            self.select(Style::roman())
+        } else {
+            Ok(())
+        }
+    }
+
+    /// Takes text of a line, as far as there is neither a mark nor an end.
+    fn take_text(&mut self, bytes: &[u8]) -> Result<usize, Failed>
+        requires { 0 < length bytes.now }
+        ensures on { self.new.is_on ≡ self.old.is_on }
+        ensures count { IfOk result (λ n. n ≤ length bytes.now) }
+        ensures progress { IfOk result (λ n. 0 < n) }
+        ensures failed { T.failed self.new.inner ≡ (is_err result || T.failed self.old.inner) }
+    {
+        self.select(self.wanted)?;
+        let rest = &bytes[1..];
+        let line = length_before(rest, b'\n');
+        self.inner
+            .write(&bytes[..1 + length_before(&rest[..line], MARK)])
+    }
+
+    /// Takes a part of a text with marks: up to the next one or the end of the line, or a byte of one.
     fn take_marked(&mut self, bytes: &[u8]) -> Result<usize, Failed>
         ensures on { self.new.is_on ≡ self.old.is_on }
         ensures count { IfOk result (λ n. n ≤ length bytes.now) }
@@ -63,15 +112,18 @@ impl<T: Target> StyleCodes<T> {
         match bytes {
             [] => Ok(0),
             [number, ..] if self.in_mark => {
-                write_all(&mut self.inner, code_of(style_in(number.wrapping_sub(128))))?;
-                self.in_mark = false;
+                self.take_number(*number)?;
                 Ok(1)
             }
             [MARK, ..] => {
                 self.in_mark = true;
                 Ok(1)
             }
-            [_, rest @ ..] => self.inner.write(&bytes[..1 + length_before(rest, MARK)]),
+            [b'\n', ..] => {
+                self.select(Style::roman())?;
+                self.inner.write(&bytes[..1])
+            }
+            _ => self.take_text(bytes),
         }
     }
 }
