@@ -7,6 +7,7 @@ const Z5 = join(EXAMPLES, "lighthouse.z5");
 const SIZE = [360, 640];
 const WITH_KEYBOARD = [360, 370];
 
+const lastTyped = () => [...document.querySelectorAll("#scroller .typed")].pop()?.textContent.trimEnd() ?? "";
 const isOpen = () => document.querySelector("dialog[open]") !== null;
 const joined = (lines) => lines.map((line) => `${line}\n`).join("");
 
@@ -46,12 +47,13 @@ async function fits(page, what) {
     same(wide, "", `how many pixels are too many ${what}`);
 }
 
-/** In the page: the texts that are cut off where they stand. */
+/** In the page: the texts that are cut off where they stand. (Letters may be a little higher than their line.) */
 function cutInPage(selectors) {
-    return [...document.querySelectorAll(selectors)]
-        .filter((it) => it.getClientRects().length
-            && (it.scrollWidth > it.clientWidth + 1 || it.scrollHeight > it.clientHeight + 1))
-        .map((it) => it.id || it.textContent).join();
+    return [...document.querySelectorAll(selectors)].filter((it) => {
+        const spare = parseFloat(getComputedStyle(it).fontSize) / 3;
+        return it.getClientRects().length
+            && (it.scrollWidth > it.clientWidth + 1 || it.scrollHeight > it.clientHeight + spare);
+    }).map((it) => it.id || it.textContent).join();
 }
 
 /** In the page: the controls that a finger misses. */
@@ -131,17 +133,17 @@ async function saves(page) {
 
 /** Undo, History and Look inside by a finger: the story is in sight after each. */
 async function looksAround(page) {
-    const typed = () => page.run(() => document.querySelectorAll("#scroller .typed").length);
-    const count = await typed();
+    const last = await page.run(lastTyped);
     await page.tap("#undo");
-    await page.until((it) => document.querySelectorAll("#scroller .typed").length === it, count - 1);
+    await page.until(() => document.getElementById("told").textContent === "Went back one step.");
     await page.rests();
+    holds(await page.run(lastTyped) !== last, "the line that was taken back is still there");
     await inSight(page, "after Undo");
     await opens(page, "menu-lines", "lines");
     same(await page.run(smallInPage), "", "what is too small in the list of lines");
     await page.tap("#line-list li:last-child button");
-    await page.until((it) => document.querySelectorAll("#scroller .typed").length === it, count);
     await goneOn(page);
+    await page.until((it) => [...document.querySelectorAll("#scroller .typed")].pop()?.textContent === `${it}\n`, last);
     await inSight(page, "after the end of the list was chosen");
     await opens(page, "menu-inside", "inside");
     for (const tab of ["map", "tree"]) {
