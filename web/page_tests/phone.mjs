@@ -195,7 +195,7 @@ function slotInPage() {
     return { width: pick.width, height: pick.height, tops: buttons.map((it) => it.top - pick.bottom) };
 }
 
-/** The windows have room for their words in text of each size: none is cut, and a saved game stands over its buttons. */
+/** The windows have room for their words in text of each size, and a saved game stands over its buttons. */
 async function windowsOfLargeText(page) {
     await onPhone(page, async () => {
         await page.fresh();
@@ -229,11 +229,8 @@ function isWholeInPage() {
         const { width } = it.getBoundingClientRect();
         const free = it.cloneNode(true);
         free.id = "";
-        free.setAttribute("style", "");
         it.parentElement.append(free);
-        free.style.justifySelf = "start";
-        free.style.position = "absolute";
-        free.style.width = "min-content";
+        Object.assign(free.style, { position: "absolute", width: "min-content" });
         const least = free.getBoundingClientRect().width;
         free.remove();
         return width >= least - 1;
