@@ -88,7 +88,7 @@ async function picks(page, id, key) {
 }
 
 /** Types lines, every third one sent by a finger, and looks after each whether the story is in sight. */
-async function plays(page, lines) {
+async function plays(page, lines, what) {
     for (const [i, line] of lines.entries()) {
         await page.browser.write(line);
         if (i % 3 === 2 && await page.isShown("enter"))
@@ -96,11 +96,12 @@ async function plays(page, lines) {
         else
             await page.browser.press("Enter");
         await page.rests();
-        await inSight(page, `after ${line}`);
+        await inSight(page, `after ${line}, ${what}`);
     }
 }
 
-const TO_SAVE = [
+/** Parts of the play: how the phone is held, the lines from and to, and what comes first. */
+const PARTS = [
     ["with a keyboard", 0, 14, async (page) => {
         await page.tap("#line");
         await views(page, WITH_KEYBOARD);
@@ -163,17 +164,17 @@ async function evening(page) {
         await page.fresh();
         await page.tap("#example");
         await page.rests();
-        for (const [, from, to, prepare] of TO_SAVE) {
+        for (const [what, from, to, prepare] of PARTS) {
             await prepare(page);
-            await plays(page, lines.slice(from, to));
+            await plays(page, lines.slice(from, to), what);
         }
         await saves(page);
-        await plays(page, lines.slice(28, 34));
+        await plays(page, lines.slice(28, 34), "after a game was saved");
         await page.keeps(35);
         await page.reload();
         await page.rests();
         await inSight(page, "after a reload");
-        await plays(page, lines.slice(34));
+        await plays(page, lines.slice(34), "after a reload");
         const file = join(page.browser.folder, "profile", "evening.qzl");
         const all = [...lines.slice(0, 28), "save", ...lines.slice(28), "restore", "look"];
         await looksAround(page);
@@ -182,7 +183,7 @@ async function evening(page) {
         same(await page.run(cutInPage, "#slots .pick, #slots .pick span"), "", "what is cut in the saved games");
         await page.tap("#slots .pick");
         await goneOn(page);
-        await plays(page, ["look"]);
+        await plays(page, ["look"], "after a game was restored");
         same(await page.transcript(), native(["play", "--echo", "--save", file, Z5], joined(all)).text,
             "the transcript");
     });
