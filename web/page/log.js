@@ -294,8 +294,10 @@ export class Log {
     boldLine() {
         for (const { text, ranges = [] } of this.blocks.flat())
             for (const { from, to, styles } of ranges) {
-                const line = text.slice(text.lastIndexOf("\n", from - 1) + 1).split("\n")[0].trim();
-                if (styles.includes("bold") && line && line === text.slice(from, to).trim())
+                const bold = text.slice(from, to);
+                const start = from + bold.length - bold.trimStart().length;
+                const line = text.slice(text.lastIndexOf("\n", start - 1) + 1).split("\n")[0].trim();
+                if (styles.includes("bold") && line && line === bold.trim())
                     return line;
             }
         return "";
@@ -515,4 +517,6 @@ function drawOther(span, { kind, text }) {
         span.setAttribute("role", "heading");
         span.setAttribute("aria-level", "2");
     }
+    if (kind === "box")
+        span.style.setProperty("--columns", String(Math.max(...text.split("\n").map((row) => row.length))));
 }

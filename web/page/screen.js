@@ -79,6 +79,31 @@ export function boxText(rows) {
     return inner.map((row) => row.slice(margin));
 }
 
+/**
+ * How many places of a row have ink.
+ * @param {RowRun[]} runs
+ */
+function inkOf(runs) {
+    return runs.reduce((sum, { text, styles }) =>
+        sum + (styles.includes("reverse") ? text : text.replaceAll(" ", "")).length, 0);
+}
+
+/**
+ * The row that was marked, as that of a menu where a key moves the mark: it has the most ink more than before.
+ * @param {RowRun[][]} before
+ * @param {RowRun[][]} now
+ */
+function markedRow(before, now) {
+    if (before.length !== now.length)
+        return 0;
+    const more = now.map((runs, i) => inkOf(runs) - inkOf(before[i]));
+    const most = Math.max(0, ...more);
+    return most > 0 ? more.indexOf(most) : null;
+}
+
+/** So many pixels are seen above and below a row that is marked. */
+const EDGE = 3;
+
 export class Screen {
     constructor() {
         /** @type {string[]} */
@@ -93,6 +118,8 @@ export class Screen {
          * @type {string[]}
          */
         this.parts = [];
+        /** The row that was marked last, which is kept in sight. */
+        this.marked = 0;
         addEventListener("resize", () => this.draw());
     }
 
@@ -102,6 +129,7 @@ export class Screen {
      */
     show({ rows, grid, width, status }) {
         const before = this.parts;
+        this.marked = markedRow(this.grid, grid) ?? this.marked;
         Object.assign(this, { rows, grid, width, status });
         this.parts = [...status ? statusParts(status) : [], ...rows].flatMap((row) => row.trim().split(/ {2,}/))
             .filter((part) => part);
@@ -123,6 +151,7 @@ export class Screen {
 
     draw() {
         const isEmpty = !this.status && !this.grid.flat().some(isSeen);
+        const top = upper.scrollTop;
         upper.hidden = isEmpty;
         upper.replaceChildren();
         upper.classList.remove("inked");
@@ -133,6 +162,22 @@ export class Screen {
         if (this.rows.length)
             this.drawRows();
         upper.tabIndex = upper.scrollWidth > upper.clientWidth || upper.scrollHeight > upper.clientHeight ? 0 : -1;
+        this.showMarked(top);
+    }
+
+    /**
+     * Scrolls as little as needed until the marked row is seen, where not all rows have room.
+     * @param {number} top how far the rows were scrolled before
+     */
+    showMarked(top) {
+        const grid = /** @type {HTMLElement | null} */ (upper.querySelector(".grid"));
+        if (!grid || upper.scrollHeight <= upper.clientHeight)
+            return;
+        const height = grid.offsetHeight / this.grid.length;
+        // (a row in reverse is a little higher than the others)
+        const start = grid.offsetTop - upper.offsetTop + height * this.marked - EDGE;
+        const least = start + height + 2 * EDGE - upper.clientHeight;
+        upper.scrollTop = this.marked > 0 ? Math.min(start, Math.max(top, least)) : 0;
     }
 
     drawRows() {

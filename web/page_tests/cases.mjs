@@ -9,6 +9,8 @@ import {
 } from "./page.mjs";
 import { OWN } from "./own.mjs";
 import { PERSON } from "./person.mjs";
+import { PHONE } from "./phone.mjs";
+import { PROGRAMS } from "./program.mjs";
 import { SCREENS } from "./screens.mjs";
 import { SITES } from "./sites.mjs";
 import { echoingKeys, readingKeys, telling } from "./stories.mjs";
@@ -917,8 +919,10 @@ export const CASES = [
     ...KEEPING,
     ...USING,
     ...PERSON,
+    ...PHONE,
     ...SCREENS,
     ...OWN,
+    ...PROGRAMS,
     ...SITES,
     ["360 pixels wide", narrow],
     ["contrast of all texts", contrast],

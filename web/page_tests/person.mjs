@@ -704,6 +704,7 @@ async function titles(page) {
     const tries = [
         [titled("A BOLD TALE", "Once.\n>"), "bold.z5", "A BOLD TALE"], [telling("Once.\n>"), "plain.z5", "plain.z5"],
         [blorb(titled("A BOLD TALE", "Twice.\n>"), metadata), "salt.zblorb", "Salt & Sky"],
+        [titled("\n\nA LATE TALE", "\nOnce.\n>"), "late.z5", "A LATE TALE"],
         [titled("Bold", " words.\n>"), "words.z5", "Bold"],
     ];
     await page.fresh();
