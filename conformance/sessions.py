@@ -150,8 +150,8 @@ class Sessions(Asked):
 
     def styles_are_shown_at_a_terminal(self) -> None:
         """Each style is selected before its text, and lines, what is typed and what is left behind are plain."""
-        came = self.at_terminal("play --styles styled.z5", (("it", "x"),))
         bold, reverse, italic, plain = "\x1b[0;1m", "\x1b[0;1;7m", "\x1b[0;4m", "\x1b[0m"
+        came = self.at_terminal("play --styles styled.z5", ((f"it{plain}", "x"),))
         same(f"a{bold}bold{plain}\n{bold}er{reverse}x{plain} c{italic}it{plain}x\nd", came)
         same("abold\nerx citx\nd", self.at_terminal("play styled.z5", (("it", "x"),)))
 
@@ -165,7 +165,7 @@ class Sessions(Asked):
 
     def rows_are_shown_in_styles(self) -> None:
         """A box has the styles of its cells, and its bar is plain."""
-        came = self.at_terminal("play --styles --boxes --width 20 styled_row.z5", (("b", "x"),))
+        came = self.at_terminal("play --styles --boxes --width 20 styled_row.z5", (("b\x1b[0m", "x"),))
         same("| is \x1b[0;7mhi\x1b[0m\n\x1b[0;1mb\x1b[0mx\n", came)
         same("| is hi\nbx\n", self.at_terminal("play --boxes --width 20 styled_row.z5", (("b", "x"),)))
 
