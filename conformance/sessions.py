@@ -163,6 +163,14 @@ class Sessions(Asked):
         came = self.at_terminal("play --styles --width 20 styled_lines.z5")
         same("\x1b[0;1mthe quick brown fox\x1b[0m\n\x1b[0;1mjumps\x1b[0m over", came)
 
+    def styles_leave_questions_and_transcripts_alone(self) -> None:
+        """What waits for Enter within bold text is plain, and a transcript has the text."""
+        words = "play --styles --width 20 --page 2 --script kept styled_page.z5"
+        came = self.at_terminal(words, (("-- more --", ""),))
+        first = "\x1b[0;1mthe quick brown fox\x1b[0m\n\x1b[0;1mjumps over the lazy\x1b[0m\n"
+        same(first + "-- more --\n\x1b[0;1mdog and runs\x1b[0m", came)
+        same(b"the quick brown fox jumps over the lazy dog and runs", self.read("kept"))
+
     def rows_are_shown_in_styles(self) -> None:
         """A box has the styles of its cells, and its bar is plain."""
         came = self.at_terminal("play --styles --boxes --width 20 styled_row.z5", (("b\x1b[0m", "x"),))
