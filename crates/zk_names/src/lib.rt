@@ -1,0 +1,9 @@
+// Inform's debugging files, and the names that they give to what stands in a story.
+#![tactic(auto)]
+
+pub mod damage;
+pub(crate) mod document;
+pub mod examples;
+pub mod names;
+pub(crate) mod section;
+pub mod text;
