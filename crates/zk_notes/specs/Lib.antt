@@ -5,4 +5,5 @@ pub mod Counts
 pub mod Findings
 pub mod Marks
 pub mod Union
+pub mod ListedTexts
 pub mod guards

@@ -3,7 +3,6 @@ use Rattle.std.specs.Prelude.{ℕ, ◌==◌, ◌&&◌, Bool, true, false, List, 
 use Rattle.std.specs.Prelude.{length, count_by, decimal}
 use Rattle.std.specs.Prelude.{if◌then◌else◌, Option, Some, None}
 use Rattle.std.specs.List.{filter_map, find, flat_map, list_any}
-use Rattle.std.specs.Str.{bytes_eq}
 use Rattle.zk_code.specs.Reading.{instr_at}
 use Rattle.zk_mem.specs.Map.{MemoryMap}
 use Rattle.zk_inspect.specs.Lines.{fact_line}

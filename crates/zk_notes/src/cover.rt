@@ -56,7 +56,7 @@ pub(crate) fn routine_of(fact: Fact) -> Option<u32>
 }
 
 /// The addresses of the instructions that are listed.
-fn instructions_in(alloc: Global, facts: &Facts<'_>) -> Result<Vec<u32>, AllocError>
+pub fn instructions_in(alloc: Global, facts: &Facts<'_>) -> Result<Vec<u32>, AllocError>
     ensures { IfOk result
         (λ v. v.items ≡ instructions_in facts.now.memory.now facts.now.list.now) }
 {
@@ -68,7 +68,7 @@ fn instructions_in(alloc: Global, facts: &Facts<'_>) -> Result<Vec<u32>, AllocEr
 }
 
 /// The addresses of the routines that are listed.
-fn routines_in(alloc: Global, facts: &[Fact]) -> Result<Vec<u32>, AllocError>
+pub fn routines_in(alloc: Global, facts: &[Fact]) -> Result<Vec<u32>, AllocError>
     ensures { IfOk result (λ v. v.items ≡ routines_in facts.now) }
 {
     let mut addresses = Vec::new(alloc);
@@ -256,6 +256,23 @@ pub fn marked(
     };
     let mut out = Lines::new(alloc);
     coverage.write_all(&mut out, facts, notes);
+    coverage.write_summary(&mut out);
+    out.finish()
+}
+
+/// The line that says how much ran of what is listed, as below code with marks. The covered addresses ascend.
+pub fn summary(alloc: Global, facts: &Facts<'_>, covered: &[u32]) -> Result<Vec<u8>, AllocError>
+    ensures { IfOk result (λ v. IsNonDecreasing covered.now → v.items ≡ summary_of covered.now
+        (instructions_in facts.now.memory.now facts.now.list.now) (routines_in facts.now.list.now)) }
+{
+    let instructions = instructions_in(alloc, facts)?;
+    let routines = routines_in(alloc, facts.list)?;
+    let coverage = Coverage {
+        covered,
+        instructions: instructions.as_slice(),
+        routines: routines.as_slice(),
+    };
+    let mut out = Lines::new(alloc);
     coverage.write_summary(&mut out);
     out.finish()
 }

@@ -9,6 +9,7 @@ pub mod findings;
 pub mod graph;
 pub mod info_notes;
 pub mod lines;
+pub mod listed_texts;
 pub mod missing;
 pub mod picture;
 mod pieces;
