@@ -2,6 +2,7 @@
 use Rattle.std.proofs.Common.{◌≡◌, ◌∙◌, ◌<◌, ◌≤◌, ◌⊎◌, inl, inr, ℕ, zero, suc, List, [], ◌∷◌, ◌++◌, length, take}
 use Rattle.std.proofs.Common.{append-nil, cond, filter, get_or, ◌==◌}
 use Rattle.std.proofs.lemmas.Bool.Decides.{nat_tests}
+use Rattle.std.proofs.lemmas.List.{length-map}
 use Rattle.std.proofs.Common.{Option, Some, None, IfNone, IfSome, codes, refl, sym, ap, arith, subst, Bool, true, false}
 use Rattle.std.specs.Prelude.{SomeIff, IsSomeAnd, map, option_map, unwrap_or}
 use Rattle.std.specs.Str.{bytes_eq}
@@ -23,7 +24,7 @@ use Rattle.zk_inspect.specs.declared.section.Section.{Section}
 use Rattle.zk_inspect.specs.declared.section.Section.TheVariants.{Header}
 use Rattle.zk_command.specs.declared.choice.Choice.{Choice}
 use Rattle.zk_command.specs.declared.options.CommandTable.{CommandTable}
-use Rattle.zk_command.specs.declared.choice.Choice.TheVariants.{Play, Show, Test, Unpack, Page}
+use Rattle.zk_command.specs.declared.choice.Choice.TheVariants.{Play, Show, Test, Cover, Unpack, Page}
 use Rattle.zk_command.specs.declared.settings.Asked.{Asked}
 use Rattle.zk_command.specs.declared.settings.Asked.TheVariants.{Sections, Code, Findings}
 
@@ -200,7 +201,7 @@ other_name : (name known : Text) → bytes_eq name known ≡ false → name ≡ 
 other_name name known test e =
     let d = bytes_eq-Decides name known in let both : false ≡ true = sym test ∙ d.1 e in absurd cc
 
--- `play`, `test`, `unpack` and `page` list nothing
+-- `play`, `test`, `cover`, `unpack` and `page` list nothing
 no_asked : (name : Text) (rows : List Row) (asked : Asked) → bytes_eq name (codes "info") ≡ false
     → bytes_eq name (codes "disasm") ≡ false → bytes_eq name (codes "check") ≡ false → SaysAsked name rows asked → ⊥
 no_asked name rows (Sections sections) i d k h = other_name name (codes "info") i h.0
@@ -213,7 +214,8 @@ pub no_play_said : (rows : List Row) → ((path : List ℕ) (o : PlayOptions) �
 no_play_said rows none (Play story options) h = none story.now options h.1 h.2
 no_play_said rows none (Show stories roots options asked) h =
     no_asked (codes "play") rows asked refl refl refl h.2
-no_play_said rows none (Test paths story bless) h = other_name (codes "play") (codes "test") refl h.0
+no_play_said rows none (Test paths options) h = other_name (codes "play") (codes "test") refl h.0
+no_play_said rows none (Cover told sources options) h = other_name (codes "play") (codes "cover") refl h.0
 no_play_said rows none (Unpack file out) h = other_name (codes "play") (codes "unpack") refl h.0
 no_play_said rows none (Page story out options) h = other_name (codes "play") (codes "page") refl h.0
 
@@ -223,7 +225,8 @@ pub no_unpack_said : (rows : List Row) → ((file out : List ℕ) → first_of (
 no_unpack_said rows none (Play story options) h = other_name (codes "unpack") (codes "play") refl h.0
 no_unpack_said rows none (Show stories roots options asked) h =
     no_asked (codes "unpack") rows asked refl refl refl h.2
-no_unpack_said rows none (Test paths story bless) h = other_name (codes "unpack") (codes "test") refl h.0
+no_unpack_said rows none (Test paths options) h = other_name (codes "unpack") (codes "test") refl h.0
+no_unpack_said rows none (Cover told sources options) h = other_name (codes "unpack") (codes "cover") refl h.0
 no_unpack_said rows none (Unpack file out) h = none file.now out.now h.1 h.2
 no_unpack_said rows none (Page story out options) h = other_name (codes "unpack") (codes "page") refl h.0
 
@@ -233,7 +236,8 @@ pub no_page_said : (rows : List Row) → ((story out : List ℕ) → SaysStory r
 no_page_said rows none (Play story options) h = other_name (codes "page") (codes "play") refl h.0
 no_page_said rows none (Show stories roots options asked) h =
     no_asked (codes "page") rows asked refl refl refl h.2
-no_page_said rows none (Test paths story bless) h = other_name (codes "page") (codes "test") refl h.0
+no_page_said rows none (Test paths options) h = other_name (codes "page") (codes "test") refl h.0
+no_page_said rows none (Cover told sources options) h = other_name (codes "page") (codes "cover") refl h.0
 no_page_said rows none (Unpack file out) h = other_name (codes "page") (codes "unpack") refl h.0
 no_page_said rows none (Page story out options) h = none story.now out.now h.1 h.2
 
@@ -251,9 +255,23 @@ pub no_test_said : (rows : List Row) (paths : List Text) → paths ≡ unwrap_or
 no_test_said rows paths is none (Play story options) h = other_name (codes "test") (codes "play") refl h.0
 no_test_said rows paths is none (Show stories roots options asked) h =
     no_asked (codes "test") rows asked refl refl refl h.2
-no_test_said rows paths is none (Test told story bless) h = no_paths rows paths _ is none h.1.0 h.1.1
+no_test_said rows paths is none (Test told options) h = no_paths rows paths _ is none h.1.0 h.1.1
+no_test_said rows paths is none (Cover told sources options) h = other_name (codes "test") (codes "cover") refl h.0
 no_test_said rows paths is none (Unpack file out) h = other_name (codes "test") (codes "unpack") refl h.0
 no_test_said rows paths is none (Page story out options) h = other_name (codes "test") (codes "page") refl h.0
+
+-- without two paths `cover` asks for nothing
+pub no_cover_said : (rows : List Row) (paths : List Text) → paths ≡ unwrap_or (all_of (codes "STORY") rows) []
+    → length paths < 2 → (c : Choice) → Says (codes "cover") rows c → ⊥
+no_cover_said rows paths is few (Play story options) h = other_name (codes "cover") (codes "play") refl h.0
+no_cover_said rows paths is few (Show stories roots options asked) h =
+    no_asked (codes "cover") rows asked refl refl refl h.2
+no_cover_said rows paths is few (Test told options) h = other_name (codes "cover") (codes "test") refl h.0
+no_cover_said rows paths is few (Cover told sources options) h =
+    let same : length (map (λ s. s.now) told.items) ≡ length paths = ap length (h.1.1 ∙ sym is) in
+    absurd (omega (arith, same, few, length-map told.items (λ s. s.now), h.2))
+no_cover_said rows paths is few (Unpack file out) h = other_name (codes "cover") (codes "unpack") refl h.0
+no_cover_said rows paths is few (Page story out options) h = other_name (codes "cover") (codes "page") refl h.0
 
 -- without stories, or by a name of no listing, nothing is listed
 pub no_stories : (name : Text) (rows : List Row) (paths : List Text) → IsOtherName name
@@ -261,7 +279,9 @@ pub no_stories : (name : Text) (rows : List Row) (paths : List Text) → IsOther
 no_stories name rows paths other is none (Play story options) h = other_name name (codes "play") other.play h.0
 no_stories name rows paths other is none (Show stories roots options asked) h =
     no_paths rows paths _ is none h.0.0 h.0.1
-no_stories name rows paths other is none (Test told story bless) h = other_name name (codes "test") other.test h.0
+no_stories name rows paths other is none (Test told options) h = other_name name (codes "test") other.test h.0
+no_stories name rows paths other is none (Cover told sources options) h =
+    other_name name (codes "cover") other.cover h.0
 no_stories name rows paths other is none (Unpack file out) h = other_name name (codes "unpack") other.unpack h.0
 no_stories name rows paths other is none (Page story out options) h = other_name name (codes "page") other.page h.0
 
@@ -269,7 +289,8 @@ pub no_command : (name : Text) (rows : List Row) → IsOtherName name
     → ((a : Asked) → SaysAsked name rows a → ⊥) → (c : Choice) → Says name rows c → ⊥
 no_command name rows other none (Play story options) h = other_name name (codes "play") other.play h.0
 no_command name rows other none (Show stories roots options asked) h = none asked h.2
-no_command name rows other none (Test told story bless) h = other_name name (codes "test") other.test h.0
+no_command name rows other none (Test told options) h = other_name name (codes "test") other.test h.0
+no_command name rows other none (Cover told sources options) h = other_name name (codes "cover") other.cover h.0
 no_command name rows other none (Unpack file out) h = other_name name (codes "unpack") other.unpack h.0
 no_command name rows other none (Page story out options) h = other_name name (codes "page") other.page h.0
 

@@ -20,6 +20,8 @@ use Rattle.zk_command.specs.declared.settings.Amount.{Amount}
 use Rattle.zk_command.specs.declared.settings.Amount.TheVariants as amount
 use Rattle.zk_command.specs.declared.settings.PlayOptions.{PlayOptions}
 use Rattle.zk_command.specs.declared.settings.PageOptions.{PageOptions}
+use Rattle.zk_command.specs.declared.settings.TestOptions.{TestOptions}
+use Rattle.zk_command.specs.declared.settings.CoverOptions.{CoverOptions}
 use Rattle.zk_command.specs.declared.settings.Form.{Form}
 use Rattle.zk_command.specs.declared.settings.Form.TheVariants.{Lines, Rows, Json, Graph, Picture}
 use Rattle.zk_command.specs.declared.settings.Roots.{Roots}
@@ -27,11 +29,12 @@ use Rattle.zk_command.specs.declared.settings.ShowOptions.{ShowOptions}
 use Rattle.zk_command.specs.declared.choice.Choice.{Choice}
 use Rattle.zk_command.specs.declared.choice.Named.{Named as NamedByCommand}
 use Rattle.zk_command.specs.declared.options.CommandOption.{CommandOption}
-use Rattle.zk_command.specs.declared.options.CommandOption.TheVariants.{Number, File, Folder, Line, Address, Flag, Path}
-use Rattle.zk_command.specs.declared.options.CommandOption.TheVariants.{Story, Stories, Walkthroughs}
+use Rattle.zk_command.specs.declared.options.CommandOption.TheVariants.{Number, File, Folder, Folders, Line, Address}
+use Rattle.zk_command.specs.declared.options.CommandOption.TheVariants.{Flag, Path, Story, Stories, Walkthroughs}
+use Rattle.zk_command.specs.declared.options.CommandOption.TheVariants.{Covers}
 use Rattle.zk_command.specs.declared.options.CommandTable.{CommandTable}
 use Rattle.zk_command.specs.declared.options.NumberOption.{NumberOption}
-use Rattle.zk_command.specs.declared.choice.Choice.TheVariants.{Play, Show, Test, Unpack, Page}
+use Rattle.zk_command.specs.declared.choice.Choice.TheVariants.{Play, Show, Test, Cover, Unpack, Page}
 use Rattle.zk_command.specs.declared.settings.Asked.{Asked}
 use Rattle.zk_command.specs.declared.settings.Asked.TheVariants.{Sections, Code, Findings}
 use Rattle.zk_inspect.specs.Sections.{all_sections, section_name}
@@ -54,7 +57,7 @@ story_argument = record (new_rule (codes "STORY")) { required = true }
 abbrev pub story_arguments : Rule
 story_arguments = record story_argument { action = Some Append }
 
--- the paths of walkthroughs and folders, which stand where stories do
+-- the paths of walkthroughs and folders, or of coverage files and a story, which stand where stories do
 abbrev pub path_arguments : Rule
 path_arguments = record story_arguments { value_names = 1 }
 
@@ -87,6 +90,7 @@ abbrev pub option_rule : CommandOption → Rule
 option_rule (Number o) = number_rule o
 option_rule (File name help) = value_option name.now
 option_rule (Folder name help) = value_option name.now
+option_rule (Folders name help) = repeated_option name.now
 option_rule (Line name help) = value_option name.now
 option_rule (Address name help) = repeated_option name.now
 option_rule (Flag name help) = flag name.now
@@ -94,6 +98,7 @@ option_rule (Path name help) = file_argument name.now
 option_rule Story = story_argument
 option_rule Stories = story_arguments
 option_rule Walkthroughs = path_arguments
+option_rule Covers = path_arguments
 
 -- the flag of a section
 abbrev pub section_rule : Section → Rule
@@ -115,7 +120,8 @@ with_tables a [] = a
 with_tables a (t ∷ ts) = with_tables (with_subcommand a (table_command t).top) ts
 
 -- `play [--frames n] [--words n] [--undo n] [--steps n] [--seed n] [--save FILE] [--saves FOLDER] [--script FILE]
--- [--upper] [--boxes] [--width n] [--page n] [--styles] [--echo] [--record FILE] [--calls] [--cover FILE] STORY`
+-- [--upper] [--boxes] [--width n] [--page n] [--styles] [--echo] [--record FILE] [--calls] [--cover FILE]
+-- [--names FILE] STORY`
 abbrev pub play_command : App
 play_command = with_rules (new_app (codes "play")) (
     number_option (codes "frames") (codes "1024")
@@ -135,6 +141,7 @@ play_command = with_rules (new_app (codes "play")) (
     ∷ value_option (codes "record")
     ∷ flag (codes "calls")
     ∷ value_option (codes "cover")
+    ∷ value_option (codes "names")
     ∷ story_argument
     ∷ [])
 
@@ -183,11 +190,17 @@ check_command =
     with_rules (new_app (codes "check")) (flag (codes "notes") ∷ flag (codes "summary") ∷ flag (codes "rows")
     ∷ flag (codes "json") ∷ flag (codes "recursive") ∷ value_option (codes "files-from") ∷ story_arguments ∷ [])
 
--- `test [--files-from FILE] [--story FILE] [--bless] PATH..`
+-- `test [--files-from FILE] [--story FILE] [--bless] [--cover FILE] [--names FILE] PATH..`
 abbrev pub test_command : App
 test_command =
     with_rules (new_app (codes "test")) (value_option (codes "files-from") ∷ value_option (codes "story")
-    ∷ flag (codes "bless") ∷ path_arguments ∷ [])
+    ∷ flag (codes "bless") ∷ value_option (codes "cover") ∷ value_option (codes "names") ∷ path_arguments ∷ [])
+
+-- `cover [--names FILE] [--source FOLDER].. [--lcov FILE] [--html FILE] FILE..`
+abbrev pub cover_command : App
+cover_command =
+    with_rules (new_app (codes "cover")) (value_option (codes "names") ∷ repeated_option (codes "source")
+    ∷ value_option (codes "lcov") ∷ value_option (codes "html") ∷ path_arguments ∷ [])
 
 -- `unpack FILE OUT`
 abbrev pub unpack_command : App
@@ -219,8 +232,8 @@ first_commands =
 -- zkit's command line: these commands; help and the version are clap's
 abbrev pub command_line : App
 command_line =
-    with_subcommand (with_subcommand (with_subcommand first_commands test_command.top) unpack_command.top)
-    page_command.top
+    with_subcommand (with_subcommand (with_subcommand (with_subcommand first_commands test_command.top)
+    cover_command.top) unpack_command.top) page_command.top
 
 -- the number that an argument's digits say, with or without a plus before them
 abbrev pub number_in : Text → ℕ
@@ -278,8 +291,8 @@ abbrev pub SaysText : {S : Type 0} → (S → Text) → List Row → Text → Op
 SaysText {S} text rows option said = option_map text said ≡ first_of option rows
 
 -- what clap found says the options of a play: the limits, the seed, the view, whether boxes are shown, files, the
--- columns of the screen and the lines of a page, whether styles and what is read are shown, and calls are told, and the
--- file of addresses that ran
+-- columns of the screen and the lines of a page, whether styles and what is read are shown, and calls are told, the
+-- file of addresses that ran, and the debugging file
 pub record SaysOptions (rows : List Row) (o : PlayOptions) : Type 0 where
   pub limits : SaysLimits rows o.limits
   pub seed : SaysSeed rows o.seed
@@ -295,6 +308,20 @@ pub record SaysOptions (rows : List Row) (o : PlayOptions) : Type 0 where
   pub echo : o.echo ≡ flag_said (first_of (codes "echo") rows)
   pub calls : o.calls ≡ flag_said (first_of (codes "calls") rows)
   pub cover : SaysText (λ s. s.now) rows (codes "cover") o.cover
+  pub names : SaysText (λ s. s.now) rows (codes "names") o.names
+
+-- what clap found says the options of a test
+pub record SaysTest (rows : List Row) (o : TestOptions) : Type 0 where
+  pub story : SaysText (λ s. s.now) rows (codes "story") o.story
+  pub bless : o.bless ≡ flag_said (first_of (codes "bless") rows)
+  pub cover : SaysText (λ s. s.now) rows (codes "cover") o.cover
+  pub names : SaysText (λ s. s.now) rows (codes "names") o.names
+
+-- what clap found says the options of a coverage report
+pub record SaysCover (rows : List Row) (o : CoverOptions) : Type 0 where
+  pub names : SaysText (λ s. s.now) rows (codes "names") o.names
+  pub lcov : SaysText (λ s. s.now) rows (codes "lcov") o.lcov
+  pub html : SaysText (λ s. s.now) rows (codes "html") o.html
 
 -- the sections that flags name, in the order in which they are shown
 abbrev pub sections_named : List Row → List Section
@@ -338,6 +365,7 @@ pub record IsNamed (rows : List Row) (n : NamedByCommand) : Type 0 where
   pub paths : AreTexts (λ s. s.now) rows (codes "STORY") n.paths.items
   pub sections : n.sections.items ≡ sections_said rows
   pub roots : SaysRoots rows n.roots
+  pub sources : AreTexts (λ s. s.now) rows (codes "source") n.sources.items
 
 -- the form that the flags of a command ask for: that of `--json` where both are given
 abbrev pub form_said : List Row → Form
@@ -371,10 +399,11 @@ Says name rows (Play story options) = (name ≡ codes "play") × SaysStory rows 
 Says name rows (Show stories roots options asked) =
     SaysStories rows (map (λ s. s.now) stories.items) × SaysRoots rows roots × SaysAsked name rows asked
     × (options ≡ show_said rows)
-Says name rows (Test paths story bless) =
-    (name ≡ codes "test") × SaysStories rows (map (λ s. s.now) paths.items) × SaysText
-    (λ s. s.now) rows (codes "story") story
-    × (bless ≡ flag_said (first_of (codes "bless") rows))
+Says name rows (Test paths options) =
+    (name ≡ codes "test") × SaysStories rows (map (λ s. s.now) paths.items) × SaysTest rows options
+Says name rows (Cover paths sources options) =
+    (name ≡ codes "cover") × SaysStories rows (map (λ s. s.now) paths.items) × (2 ≤ length paths.items)
+    × AreTexts (λ s. s.now) rows (codes "source") sources.items × SaysCover rows options
 Says name rows (Unpack file out) = (name ≡ codes "unpack") × (first_of (codes "FILE") rows ≡ Some file.now)
     × (first_of (codes "OUT") rows ≡ Some out.now)
 Says name rows (Page story out options) = (name ≡ codes "page") × SaysStory rows story.now
@@ -384,6 +413,7 @@ Says name rows (Page story out options) = (name ≡ codes "page") × SaysStory r
 pub record IsOtherName (name : Text) : Type 0 where
   pub play : bytes_eq name (codes "play") ≡ false
   pub test : bytes_eq name (codes "test") ≡ false
+  pub cover : bytes_eq name (codes "cover") ≡ false
   pub unpack : bytes_eq name (codes "unpack") ≡ false
   pub page : bytes_eq name (codes "page") ≡ false
 

@@ -13,7 +13,7 @@ ghost use Rattle.zk_command.specs.declared.settings.Asked.{Asked};
 ghost use Rattle.zk_command.specs.declared.settings.Amount.{Amount};
 ghost use Rattle.zk_command.specs.declared.settings.PlayOptions.{PlayOptions};
 ghost use Rattle.zk_command.specs.CommandLine.{AreTexts, Asks, HasLimits, IsAmount, IsNamed, IsNumberIn, IsOtherName};
-ghost use Rattle.zk_command.specs.CommandLine.{SaysPage};
+ghost use Rattle.zk_command.specs.CommandLine.{SaysCover, SaysPage, SaysTest};
 ghost use Rattle.zk_command.specs.CommandLine.{IsRefusedWith, MaySayAmount, MetSays, Says, SaysAsked, SaysLimits};
 ghost use Rattle.zk_command.specs.CommandLine.{SaysNumber, SaysOptions, SaysRoots, SaysSeed, SaysStory, command_line};
 ghost use Rattle.zk_command.specs.CommandLine.{file_argument, flag_said, form_said, named_option, number_in};
@@ -25,7 +25,9 @@ use crate::options::{
     COMMANDS, CommandOption, CommandTable, FRAMES, NumberOption, PAGE, PLAY, SEED, STEPS, UNDO,
     WIDTH, WORDS,
 };
-use crate::settings::{Amount, Asked, Form, PageOptions, PlayOptions, Roots, ShowOptions};
+use crate::settings::{
+    Amount, Asked, CoverOptions, Form, PageOptions, PlayOptions, Roots, ShowOptions, TestOptions,
+};
 use clap::error::ErrorKind;
 use clap::{Arg, ArgAction, ArgMatches, Command, Error};
 use std::alloc::{AllocError, Global};
@@ -50,11 +52,17 @@ pub enum Choice<'a> {
         asked: Asked,
     },
     /// To play walkthroughs, or those in folders, one path at least, and to compare what they show with transcripts, or
-    /// to write these. `story` is that of a walkthrough which names none.
+    /// to write these.
     Test {
         paths: Vec<&'a str>,
-        story: Option<&'a str>,
-        bless: bool,
+        options: TestOptions<'a>,
+    },
+    /// To tell what ran of a story. The paths are those of coverage files, one at least, and then that of the story;
+    /// `sources` are folders in which the source is looked for.
+    Cover {
+        paths: Vec<&'a str>,
+        sources: Vec<&'a str>,
+        options: CoverOptions<'a>,
     },
     /// To write the story of a Blorb file to a file.
     Unpack {
@@ -118,6 +126,9 @@ fn option_of<'a>(alloc: Global, option: CommandOption) -> Arg<'a>
         CommandOption::Folder { name, help } => {
             option_named(alloc, name, help).value_name("FOLDER")
         }
+        CommandOption::Folders { name, help } => option_named(alloc, name, help)
+            .action(ArgAction::Append)
+            .value_name("FOLDER"),
         CommandOption::Line { name, help } => option_named(alloc, name, help).value_name("TEXT"),
         CommandOption::Address { name, help } => option_named(alloc, name, help)
             .action(ArgAction::Append)
@@ -133,6 +144,12 @@ fn option_of<'a>(alloc: Global, option: CommandOption) -> Arg<'a>
             path_named(alloc, "STORY", help)
                 .action(ArgAction::Append)
                 .value_name("PATH")
+        }
+        CommandOption::Covers => {
+            let help = "Coverage files, and then the story's file";
+            path_named(alloc, "STORY", help)
+                .action(ArgAction::Append)
+                .value_name("FILE")
         }
     }
 }
@@ -434,6 +451,7 @@ fn options_of<'a>(alloc: Global, play: &ArgMatches<'a>) -> Result<PlayOptions<'a
     let script = text_of(play, "script");
     let recorded = text_of(play, "record");
     let cover = text_of(play, "cover");
+    let names = text_of(play, "names");
     Ok(PlayOptions {
         limits,
         seed,
@@ -449,6 +467,7 @@ fn options_of<'a>(alloc: Global, play: &ArgMatches<'a>) -> Result<PlayOptions<'a
         echo: has_flag(play, "echo"),
         calls: has_flag(play, "calls"),
         cover,
+        names,
     })
 }
 
@@ -595,13 +614,14 @@ fn show_options_of(found: &ArgMatches<'_>) -> ShowOptions
     }
 }
 
-/// What a command names: the paths of stories or walkthroughs, the sections that are listed, and where code is looked
-/// for.
+/// What a command names: the paths of stories or walkthroughs, the sections that are listed, where code is looked for,
+/// and the folders of the source.
 #[derive(Drop)]
 struct Named<'a> {
     paths: Vec<&'a str>,
     sections: Vec<Section>,
     roots: Roots<'a>,
+    sources: Vec<&'a str>,
 }
 
 /// What a command that lists stories asks for, by its name, what clap found for it, and what it names.
@@ -635,9 +655,21 @@ fn choose_listing<'a>(
         }
         None => {
             let text =
-                "the commands are 'play', 'info', 'disasm', 'check', 'test', 'unpack' and 'page'";
+                "the commands are 'play', 'info', 'disasm', 'check', 'test', 'cover', 'unpack' and 'page'";
             Err(usage_error(command, ErrorKind::InvalidSubcommand, text))
         }
+    }
+}
+
+/// What the options of `test` say.
+fn test_options_of<'a>(found: &ArgMatches<'a>) -> TestOptions<'a>
+    ensures { SaysTest (rows_of (found_of found.now)) result }
+{
+    TestOptions {
+        story: text_of(found, "story"),
+        bless: has_flag(found, "bless"),
+        cover: text_of(found, "cover"),
+        names: text_of(found, "names"),
     }
 }
 
@@ -658,12 +690,44 @@ fn choose_test<'a>(
         let text = "the path of a walkthrough is missing";
         return Err(usage_error(command, ErrorKind::MissingRequiredArgument, text));
     }
-    let story = text_of(found, "story");
-    let bless = has_flag(found, "bless");
     Ok(Choice::Test {
         paths: named.paths,
-        story,
-        bless,
+        options: test_options_of(found),
+    })
+}
+
+/// What the options of `cover` say.
+fn cover_options_of<'a>(found: &ArgMatches<'a>) -> CoverOptions<'a>
+    ensures { SaysCover (rows_of (found_of found.now)) result }
+{
+    CoverOptions {
+        names: text_of(found, "names"),
+        lcov: text_of(found, "lcov"),
+        html: text_of(found, "html"),
+    }
+}
+
+/// What `cover` asks for, by what clap found for it, and what it names.
+fn choose_cover<'a>(
+    command: &mut Command<'_>,
+    found: &ArgMatches<'a>,
+    named: Named<'a>,
+) -> Result<Choice<'a>, Error>
+    requires { IsNamed (rows_of (found_of found.now)) named }
+    ensures says { IfOk result (λ c. Says (codes "cover") (rows_of (found_of found.now)) c) }
+    ensures in_range { IfOk result (λ c. HasLimits c) }
+    ensures mistake { IfErr result (λ e. 1 ≤ usage_status (kind_of e)) }
+    ensures says_none { OnErr result
+        ((c : Choice) → Says (codes "cover") (rows_of (found_of found.now)) c → ⊥) }
+{
+    if named.paths.len() < 2 {
+        let text = "the paths of a coverage file and of its story are needed";
+        return Err(usage_error(command, ErrorKind::MissingRequiredArgument, text));
+    }
+    Ok(Choice::Cover {
+        paths: named.paths,
+        sources: named.sources,
+        options: cover_options_of(found),
     })
 }
 
@@ -690,6 +754,8 @@ fn choose_by<'a>(
         choose_page(command, found)
     } else if name == "test" {
         choose_test(command, found, named)
+    } else if name == "cover" {
+        choose_cover(command, found, named)
     } else {
         choose_listing(command, name, found, named)
     }
@@ -754,10 +820,12 @@ fn named_in<'a>(alloc: Global, found: &ArgMatches<'a>) -> Result<Named<'a>, Allo
     let paths = texts_of(alloc, found, "STORY")?;
     let sections = sections_of(alloc, found)?;
     let roots = roots_of(alloc, found)?;
+    let sources = texts_of(alloc, found, "source")?;
     Ok(Named {
         paths,
         sections,
         roots,
+        sources,
     })
 }
 

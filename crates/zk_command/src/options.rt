@@ -30,6 +30,11 @@ pub(crate) enum CommandOption {
         name: &'static str,
         help: &'static str,
     },
+    /// With a folder's path, as often as it is given.
+    Folders {
+        name: &'static str,
+        help: &'static str,
+    },
     /// With a text, or not at all.
     Line {
         name: &'static str,
@@ -56,6 +61,8 @@ pub(crate) enum CommandOption {
     Stories,
     /// The paths of walkthroughs and folders, one at least.
     Walkthroughs,
+    /// The paths of coverage files, one at least, and then that of the story.
+    Covers,
 }
 
 /// A command, by what its help says, with the sections that it lists, each by a flag, its options and then its paths.
@@ -114,8 +121,13 @@ pub(crate) const WIDTH: NumberOption =
 pub(crate) const PAGE: NumberOption =
     number!("page", None, 2 to 1000, "Pauses after this many lines at a terminal", or "auto" "fits its height");
 
+const NAMES: CommandOption = CommandOption::File {
+    name: "names",
+    help: "Names routines and source lines by this debugging file, which `inform6 -k` writes",
+};
+
 /// The options of `play`.
-const PLAY_OPTIONS: [CommandOption; 18] = [
+const PLAY_OPTIONS: [CommandOption; 19] = [
     CommandOption::Number(FRAMES),
     CommandOption::Number(WORDS),
     CommandOption::Number(UNDO),
@@ -163,6 +175,7 @@ const PLAY_OPTIONS: [CommandOption; 18] = [
         name: "cover",
         help: "Adds the addresses of executed instructions to this coverage file",
     },
+    NAMES,
     CommandOption::Story,
 ];
 
@@ -294,7 +307,7 @@ const CHECK: CommandTable = CommandTable {
 };
 
 /// The options of `test`.
-const TEST_OPTIONS: [CommandOption; 4] = [
+const TEST_OPTIONS: [CommandOption; 6] = [
     FILES_FROM,
     CommandOption::File {
         name: "story",
@@ -304,6 +317,11 @@ const TEST_OPTIONS: [CommandOption; 4] = [
         name: "bless",
         help: "Writes the expected transcripts instead of comparing them",
     },
+    CommandOption::File {
+        name: "cover",
+        help: "Adds the addresses of executed instructions to this coverage file",
+    },
+    NAMES,
     CommandOption::Walkthroughs,
 ];
 
@@ -313,6 +331,32 @@ const TEST: CommandTable = CommandTable {
     example: "Example: zkit test tests",
     sections: &[],
     options: &TEST_OPTIONS,
+};
+
+/// The options of `cover`, and its paths.
+const COVER_OPTIONS: [CommandOption; 5] = [
+    NAMES,
+    CommandOption::Folders {
+        name: "source",
+        help: "Looks for the files of the source in this folder",
+    },
+    CommandOption::File {
+        name: "lcov",
+        help: "Writes the coverage to this file, for lcov",
+    },
+    CommandOption::File {
+        name: "html",
+        help: "Writes the coverage to this file, as a page for browsers",
+    },
+    CommandOption::Covers,
+];
+
+const COVER: CommandTable = CommandTable {
+    name: "cover",
+    about: "Tells what plays have run, by coverage files",
+    example: "Example: zkit cover --names gameinfo.dbg ran.txt story.z5",
+    sections: &[],
+    options: &COVER_OPTIONS,
 };
 
 /// The paths of `unpack`.
@@ -373,6 +417,6 @@ const STORY_PAGE: CommandTable = CommandTable {
 };
 
 /// The commands.
-pub(crate) const COMMANDS: [CommandTable; 7] = [
-    PLAY, INFO, DISASM, CHECK, TEST, UNPACK, STORY_PAGE,
+pub(crate) const COMMANDS: [CommandTable; 8] = [
+    PLAY, INFO, DISASM, CHECK, TEST, COVER, UNPACK, STORY_PAGE,
 ];

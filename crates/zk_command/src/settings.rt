@@ -102,6 +102,32 @@ pub struct PlayOptions<'a> {
     pub calls: bool,
     /// The file that gets the addresses of the instructions that were carried out.
     pub cover: Option<&'a str>,
+    /// The compiler's debugging file, by which calls are told.
+    pub names: Option<&'a str>,
+}
+
+/// What the options of `test` say.
+#[derive(Clone, Copy, Drop)]
+pub struct TestOptions<'a> {
+    /// The story of a walkthrough that names none.
+    pub story: Option<&'a str>,
+    /// Whether transcripts are written, and not compared.
+    pub bless: bool,
+    /// The file that gets the addresses of the instructions that were carried out.
+    pub cover: Option<&'a str>,
+    /// The compiler's debugging file, by which calls are told.
+    pub names: Option<&'a str>,
+}
+
+/// What the options of `cover` say.
+#[derive(Clone, Copy, Drop)]
+pub struct CoverOptions<'a> {
+    /// The compiler's debugging file.
+    pub names: Option<&'a str>,
+    /// The file that gets the coverage in lcov's form.
+    pub lcov: Option<&'a str>,
+    /// The file that gets the coverage as a page.
+    pub html: Option<&'a str>,
 }
 
 /// What the options of `page` say.

@@ -7,3 +7,5 @@ pub mod Verdict
 pub mod Plans
 pub mod Covers
 pub mod StoryPages
+pub mod Calls
+pub mod Sources

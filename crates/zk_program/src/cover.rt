@@ -85,16 +85,23 @@ fn are_within(addresses: &[u32], length: u32) -> bool
     }
 }
 
+/// Sees that the line of a coverage file is that of a story, or answers the program's status, where it is told that it
+/// is not.
+fn see_line(rt: &HostRuntime, path: &str, line: &[u8], memory: &Memory) -> Result<(), u8> {
+    match story_line(rt.alloc(), memory) {
+        Ok(wanted) if wanted.as_slice() == line => Ok(()),
+        Ok(_) => {
+            let reason = "it is of another story, or of another build of this one";
+            Err(refuse(rt, path, reason))
+        }
+        Err(_) => Err(out_of_memory(rt)),
+    }
+}
+
 impl Covered<'_> {
     /// Sees that this is of a story, or answers the program's status, where it is told that it is not.
     pub fn see_story(&self, rt: &HostRuntime, memory: &Memory) -> Result<(), u8> {
-        let Ok(line) = story_line(rt.alloc(), memory) else {
-            return Err(out_of_memory(rt));
-        };
-        if line.as_slice() != self.story.as_bytes() {
-            let reason = "it is of another story, or of another build of this one";
-            return Err(refuse(rt, self.path, reason));
-        }
+        see_line(rt, self.path, self.story.as_bytes(), memory)?;
         if !are_within(self.addresses.as_slice(), memory.len()) {
             return Err(refuse(rt, self.path, NO_LIST));
         }
@@ -173,6 +180,11 @@ impl<'a> CoverFile<'a> {
             cover.note(*address);
         }
         Ok(CoverFile { path, story, cover })
+    }
+
+    /// Sees that the file is of a story too, or answers the program's status, where it is told that it is not.
+    pub fn see_story(&self, rt: &HostRuntime, memory: &Memory) -> Result<(), u8> {
+        see_line(rt, self.path, self.story.as_slice(), memory)
     }
 
     /// Writes all that was noted in place of what the file had, and answers the program's status after a play that

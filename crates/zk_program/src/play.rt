@@ -9,6 +9,7 @@ use crate::boxes::{Look, play_with_boxes_and_report};
 use crate::cover::CoverFile;
 use crate::exit::Exit;
 use crate::listing::open_listed;
+use crate::names::{names_of, read_names, see_named};
 use crate::opening::read_story;
 use crate::playing::{Devices, PlayRequest, play_and_report};
 use crate::told::{out_of_memory, tell_exit, tell_unmade};
@@ -16,6 +17,7 @@ use std::fs::{self, File};
 use std::io::{self, Read, Write};
 use zk_command::settings::{Amount, PlayOptions, Settings};
 use zk_fast::places::{Places, Unnoted};
+use zk_names::names::Names;
 use zk_system::asking::{Asker, StandardOutput, TypedInput};
 use zk_system::paged::Paged;
 use zk_system::record::{Record, RecordFile, write_record_heading};
@@ -199,38 +201,47 @@ fn record_of(
     }
 }
 
-/// A coverage file that a play adds to, and the bytes of the story, which told whether it is of that.
+/// The bytes of a story, which told whether other files are of it, and the coverage file that a play adds to, if there
+/// is one.
 #[derive(Drop)]
 pub struct Covering<'a> {
     story: Vec<u8>,
-    file: CoverFile<'a>,
+    file: Option<CoverFile<'a>>,
 }
 
-/// The coverage file at a path for a play of a story; or the program's status, where it is told why the story or the
-/// file is not taken.
+/// Sees that names are of a story, if there are some, and finds the coverage file for a play of it, if options name one;
+/// or answers the program's status, where it is told why the story, the names or the file are not taken.
 fn covering_of<'a>(
     rt: &HostRuntime,
-    path: &'a str,
+    options: &PlayOptions<'a>,
     story: &File,
     about: &About,
-) -> Result<Covering<'a>, u8> {
+) -> Result<Option<Covering<'a>>, u8> {
+    if options.cover.is_none() && about.names.is_none() {
+        return Ok(None);
+    }
     let alloc = rt.alloc();
     let story = match read_story(alloc, story) {
         Ok(story) => story,
         Err(error) => return Err(tell_exit(rt, &Exit::Unread(error), about)),
     };
-    let file = match open_listed(alloc, story.as_slice(), about) {
-        Ok(memory) => CoverFile::read(rt, path, &memory)?,
+    let memory = match open_listed(alloc, story.as_slice(), about) {
+        Ok(memory) => memory,
         Err(exit) => return Err(tell_exit(rt, &exit, about)),
     };
-    Ok(Covering { story, file })
+    see_named(rt, options.names, about.names.as_ref(), &memory)?;
+    let file = match options.cover {
+        Some(path) => Some(CoverFile::read(rt, path, &memory)?),
+        None => None,
+    };
+    Ok(Some(Covering { story, file }))
 }
 
 /// A play that is asked for, with its files open.
 #[derive(Drop)]
-pub struct OpenPlay<'a> {
+pub struct OpenPlay<'a, 'n> {
     story: File,
-    about: About<'a>,
+    about: About<'a, 'n>,
     options: PlayOptions<'a>,
     settings: Settings,
     /// The columns of the screen's lines, where they are wrapped.
@@ -241,19 +252,21 @@ pub struct OpenPlay<'a> {
     record: Option<File>,
 }
 
-impl<'a> OpenPlay<'a> {
+impl<'a, 'n> OpenPlay<'a, 'n> {
     /// Opens the files of a play, the story's first, and finds what its coverage file has; or answers the program's
     /// status, where it is told why one can't be opened.
     pub fn new(
         rt: &HostRuntime,
         path: &'a str,
         options: PlayOptions<'a>,
-    ) -> Result<(OpenPlay<'a>, Option<Covering<'a>>), u8>
+        names: Option<Names<'n>>,
+    ) -> Result<(OpenPlay<'a, 'n>, Option<Covering<'a>>), u8>
         requires { AreInRange options.limits }
         ensures { IfOk result (λ opened. AreInRange opened.0.settings.limits) }
     {
         let about = About {
-            tells_calls: options.calls,
+            tells_calls: options.calls || names.is_some(),
+            names,
             ..About::new(path, options.script.unwrap_or(""))
         };
         let settings = Settings {
@@ -265,10 +278,7 @@ impl<'a> OpenPlay<'a> {
             Ok(story) => story,
             Err(error) => return Err(tell_exit(rt, &Exit::Unread(error), &about)),
         };
-        let covering = match options.cover {
-            Some(cover) => Some(covering_of(rt, cover, &story, &about)?),
-            None => None,
-        };
+        let covering = covering_of(rt, &options, &story, &about)?;
         let width = width_by(rt, options.width);
         if let Some(folder) = options.saves {
             tell_no_folder(rt, folder);
@@ -316,9 +326,9 @@ impl<'a> OpenPlay<'a> {
 }
 
 /// Plays a story on the devices of an open play, notes where its instructions stand, and answers the program's status.
-fn play_noting<'r, R: Read + Drop, P: Places>(
+fn play_noting<'r, 'n, R: Read + Drop, P: Places>(
     rt: &'r HostRuntime,
-    opened: &'r OpenPlay<'r>,
+    opened: &'r OpenPlay<'r, 'n>,
     story: R,
     places: &mut P,
 ) -> u8
@@ -363,14 +373,53 @@ fn play_noting<'r, R: Read + Drop, P: Places>(
 
 /// Plays a story whose files are open, and answers the program's status. Where its instructions stand goes to its
 /// coverage file, if there is one.
-pub fn play<'r>(rt: &'r HostRuntime, opened: &'r OpenPlay<'r>, covering: Option<Covering<'r>>) -> u8
+pub fn play<'r, 'n>(
+    rt: &'r HostRuntime,
+    opened: &'r OpenPlay<'r, 'n>,
+    covering: Option<Covering<'r>>,
+) -> u8
     requires { AreInRange opened.now.settings.limits }
 {
     let Some(covering) = covering else {
         return play_noting(rt, opened, &opened.story, &mut Unnoted);
     };
     let Covering { story, file } = covering;
-    let mut file = file;
-    let status = play_noting(rt, opened, story.as_slice(), &mut file.cover);
-    file.write(rt, status)
+    let story = story.as_slice();
+    match file {
+        Some(mut file) => {
+            let status = play_noting(rt, opened, story, &mut file.cover);
+            file.write(rt, status)
+        }
+        None => play_noting(rt, opened, story, &mut Unnoted),
+    }
+}
+
+/// Plays the story at a path, as options say, with the bytes of a debugging file, if there is one; and answers the
+/// program's status.
+fn play_told<'r>(
+    rt: &'r HostRuntime,
+    path: &'r str,
+    options: PlayOptions<'r>,
+    bytes: &'r Option<Vec<u8>>,
+) -> u8
+    requires { AreInRange options.limits }
+{
+    let names = match names_of(rt, options.names, bytes) {
+        Ok(names) => names,
+        Err(status) => return status,
+    };
+    match OpenPlay::new(rt, path, options, names) {
+        Ok((opened, covering)) => play(rt, &opened, covering),
+        Err(status) => status,
+    }
+}
+
+/// Plays the story at a path, as options say, and answers the program's status.
+pub fn play_story<'r>(rt: &'r HostRuntime, path: &'r str, options: PlayOptions<'r>) -> u8
+    requires { AreInRange options.limits }
+{
+    match read_names(rt, options.names) {
+        Ok(bytes) => play_told(rt, path, options, &bytes),
+        Err(status) => status,
+    }
 }

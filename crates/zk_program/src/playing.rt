@@ -38,11 +38,11 @@ pub struct Devices<I, S, T, K> {
 
 /// A play that is asked for.
 #[derive(Drop)]
-pub struct PlayRequest<'a, R> {
+pub struct PlayRequest<'a, 'n, R> {
     /// Gives the bytes of the story.
     pub story: R,
     /// What is told of the play.
-    pub about: &'a About<'a>,
+    pub about: &'a About<'a, 'n>,
     pub settings: Settings,
 }
 
@@ -58,8 +58,8 @@ fn note_target(about: &About, machine: &Machine, stop: &Stop) {
 /// Notes the calls that led to a fault or a limit, where they are told and there is memory for them.
 fn note_calls(alloc: Global, about: &About, machine: &Machine, stop: &Stop) {
     match stop {
-        Stop::Fault(_, _) | Stop::Limit(_, _) if about.tells_calls => {
-            about.calls.set(calls_text(alloc, machine).ok());
+        Stop::Fault(address, _) | Stop::Limit(address, _) if about.tells_calls => {
+            about.calls.set(calls_text(alloc, machine, about.names.as_ref(), *address).ok());
         }
         _ => {}
     }

@@ -8,13 +8,18 @@ ghost use Rattle.zk_program.specs.Plans.{IsHeld, IsPlanFor, is_walkthrough, stat
 ghost use Rattle.zk_suite.specs.Texts.{Occurs};
 
 use crate::about::About;
+use crate::cover::CoverFile;
+use crate::listing::open_listed;
+use crate::names::{names_of, read_names, see_named};
 use crate::playing::{Devices, PlayRequest, play_and_report};
 use crate::session::{Commands, MemorySlot, Session, SessionScreen};
 use crate::told::{out_of_memory, tell_unwritten};
 use std::fs::File;
 use std::io::{self, ErrorKind, Write};
 use zk_command::manner::Manner;
-use zk_fast::places::Unnoted;
+use zk_command::settings::TestOptions;
+use zk_fast::places::{Places, Unnoted};
+use zk_names::names::Names;
 use zk_suite::difference::Difference;
 use zk_suite::search::contains;
 use zk_suite::walkthrough::{Check, Walkthrough};
@@ -31,16 +36,50 @@ const WALKTHROUGH: &str = ".walkthrough";
 
 const TRANSCRIPT: &str = ".transcript";
 
+/// What Inform's library prints where a story does what it must not.
+const LIBRARY_ERROR: &[u8] = b"[** Programming error";
+
+/// The setting of a walkthrough whose story may do that, and its value.
+const ALLOW: &str = "allow";
+
+const LIBRARY_ERRORS: &[u8] = b"library errors";
+
 /// So many lines of an answer are shown.
 const SHOWN_LINES: usize = 12;
 
 /// How walkthroughs are tested.
-#[derive(Clone, Copy, Drop)]
-pub struct Testing<'a> {
-    /// The story of a walkthrough that names none.
-    pub story: Option<&'a str>,
-    /// Whether transcripts are written.
-    pub bless: bool,
+#[derive(Drop)]
+struct Suite<'a> {
+    options: TestOptions<'a>,
+    /// The names by which calls are told, where there are some.
+    names: Option<Names<'a>>,
+    /// The coverage file of all plays, once it was read.
+    cover: Option<CoverFile<'a>>,
+    /// The program's status, once it was told that the names or the coverage file are not of a story.
+    refused: Option<u8>,
+}
+
+impl Suite<'_> {
+    /// Sees that the names and the coverage file are of the story at a path, or tells that they are not. A file that is
+    /// no story passes: its play tells that.
+    fn see_story(&mut self, rt: &HostRuntime, path: &str) -> Result<(), u8> {
+        if self.names.is_none() && self.options.cover.is_none() {
+            return Ok(());
+        }
+        let Ok(file) = File::open(rt, path) else {
+            return Ok(());
+        };
+        let Ok(memory) = open_listed(rt.alloc(), file, &About::new(path, "")) else {
+            return Ok(());
+        };
+        see_named(rt, self.options.names, self.names.as_ref(), &memory)?;
+        match (&self.cover, self.options.cover) {
+            (Some(cover), _) => cover.see_story(rt, &memory)?,
+            (None, Some(path)) => self.cover = Some(CoverFile::read(rt, path, &memory)?),
+            (None, None) => {}
+        }
+        Ok(())
+    }
 }
 
 /// A story whose file is open.
@@ -107,12 +146,34 @@ fn fail_by(rt: &HostRuntime, path: &str, file: &str, error: &io::Error) -> io::R
 }
 
 /// Plays commands on a story, and keeps what it shows.
-fn play_commands(rt: &HostRuntime, story: OpenStory, manner: Manner, commands: &[u8]) -> Played
+fn play_commands(
+    rt: &HostRuntime,
+    story: OpenStory,
+    manner: Manner,
+    commands: &[u8],
+    suite: &mut Suite<'_>,
+) -> Played
     requires { AreInRange manner.settings.limits }
 {
     let session = Session::new(rt.alloc());
     let mut errors = IoDevice::new(Vec::new(rt.alloc()));
-    let status = play_in(rt, story, manner, commands, &session, &mut errors);
+    let about = About {
+        tells_calls: true,
+        names: suite.names.take(),
+        ..About::new(story.path, "")
+    };
+    let staged = Staged {
+        file: story.file,
+        manner,
+        commands,
+        session: &session,
+    };
+    let status = match &mut suite.cover {
+        Some(cover) => play_in(rt, staged, &about, &mut cover.cover, &mut errors),
+        None => play_in(rt, staged, &about, &mut Unnoted, &mut errors),
+    };
+    let About { names, .. } = about;
+    suite.names = names;
     let lacks_memory = session.lacks_memory();
     let (text, asked) = session.into_parts();
     Played {
@@ -124,24 +185,33 @@ fn play_commands(rt: &HostRuntime, story: OpenStory, manner: Manner, commands: &
     }
 }
 
-/// Plays commands on a story in a session, and answers the program's status.
-fn play_in(
-    rt: &HostRuntime,
-    story: OpenStory,
+/// A play of a walkthrough that is to begin.
+#[derive(Drop)]
+struct Staged<'a> {
+    file: File,
     manner: Manner,
-    commands: &[u8],
-    session: &Session,
+    commands: &'a [u8],
+    session: &'a Session,
+}
+
+/// Plays commands on a story in a session, notes where its instructions stand, and answers the program's status.
+fn play_in<P: Places>(
+    rt: &HostRuntime,
+    staged: Staged<'_>,
+    about: &About,
+    places: &mut P,
     errors: &mut IoDevice<Vec<u8>>,
 ) -> u8
-    requires range { AreInRange manner.settings.limits }
+    requires range { AreInRange staged.manner.settings.limits }
     requires works { errors.old.failed ≡ false }
 {
-    let OpenStory { path, file } = story;
+    let Staged {
+        file,
+        manner,
+        commands,
+        session,
+    } = staged;
     let Manner { settings, width } = manner;
-    let about = About {
-        tells_calls: true,
-        ..About::new(path, "")
-    };
     let mut devices = Devices {
         input: Echo::new(
             Commands::new(session, commands),
@@ -154,10 +224,10 @@ fn play_in(
     };
     let request = PlayRequest {
         story: file,
-        about: &about,
+        about,
         settings,
     };
-    play_and_report(rt.alloc(), request, &mut devices, &mut Unnoted, errors)
+    play_and_report(rt.alloc(), request, &mut devices, places, errors)
 }
 
 /// The answer to the last of so many commands: the text after it, up to where the next one is asked for. The text
@@ -363,14 +433,69 @@ fn judge(
     }
 }
 
-/// Judges a walkthrough that was played: by its status, its checks and its transcript.
+/// The first line of what was shown in which the library tells an error, and how many bytes stand before it.
+fn library_error(shown: &[u8]) -> Option<(usize, &[u8])> {
+    let mut before = 0usize;
+    for line in shown.split(|byte| *byte == b'\n') {
+        if contains(line, LIBRARY_ERROR) {
+            return Some((before, line));
+        }
+        before = before.saturating_add(line.len()).saturating_add(1);
+    }
+    None
+}
+
+/// Says of the first error that the library tells, if there is one and the walkthrough allows none, and tells whether
+/// the test goes on.
+fn pass_errors(
+    rt: &HostRuntime,
+    path: &str,
+    walkthrough: &Walkthrough,
+    played: &Played,
+) -> io::Result<bool> {
+    if walkthrough.setting(ALLOW).is_some() {
+        return Ok(true);
+    }
+    let Some((before, line)) = library_error(played.text.as_slice()) else {
+        return Ok(true);
+    };
+    let commands = asked_before(played.asked.as_slice(), before);
+    fail_at(
+        rt,
+        path,
+        walkthrough,
+        commands,
+        "the library tells an error",
+    )?;
+    write_lines(rt, line, 1)?;
+    Ok(false)
+}
+
+/// Writes what was told of the ending of a play. With names all of it, below what the story showed after its last
+/// command.
+fn write_ending(
+    rt: &HostRuntime,
+    commands: &[u8],
+    played: &Played,
+    has_names: bool,
+) -> io::Result<()> {
+    if !has_names {
+        return write_lines(rt, played.errors.as_slice(), SHOWN_LINES);
+    }
+    if let Some(answer) = answer_to(played, commands, played.asked.len()) {
+        write_lines(rt, answer, SHOWN_LINES)?;
+    }
+    write_lines(rt, played.errors.as_slice(), usize::MAX)
+}
+
+/// Judges a walkthrough that was played: by its status, the errors of the library, its checks and its transcript.
 fn judge_played(
     rt: &HostRuntime,
     path: &str,
     walkthrough: &Walkthrough,
     commands: &[u8],
     played: &Played,
-    bless: bool,
+    suite: &Suite<'_>,
 ) -> io::Result<bool> {
     if played.lacks_memory {
         return Err(ErrorKind::OutOfMemory.into());
@@ -378,13 +503,17 @@ fn judge_played(
     if played.status != 0 {
         let reason = format!(in rt.alloc(); "the play ended with status {}", played.status)?;
         fail_at(rt, path, walkthrough, played.asked.len(), reason.as_str())?;
-        write_lines(rt, played.errors.as_slice(), SHOWN_LINES)?;
+        write_ending(rt, commands, played, suite.names.is_some())?;
+        return Ok(false);
+    }
+    if !pass_errors(rt, path, walkthrough, played)? {
         return Ok(false);
     }
     let checks = walkthrough.checks(rt.alloc())?;
     if !hold(rt, path, checks.as_slice(), played, commands)? {
         return Ok(false);
     }
+    let bless = suite.options.bless;
     judge(rt, path, walkthrough, played, !checks.is_empty(), bless)
 }
 
@@ -395,13 +524,13 @@ fn test_on(
     walkthrough: &Walkthrough,
     story: OpenStory,
     manner: Manner,
-    bless: bool,
+    suite: &mut Suite<'_>,
 ) -> io::Result<bool>
     requires { AreInRange manner.settings.limits }
 {
     let commands = walkthrough.commands(rt.alloc())?;
-    let played = play_commands(rt, story, manner, commands.as_slice());
-    judge_played(rt, path, walkthrough, commands.as_slice(), &played, bless)
+    let played = play_commands(rt, story, manner, commands.as_slice(), suite);
+    judge_played(rt, path, walkthrough, commands.as_slice(), &played, suite)
 }
 
 /// Whether one of some settings has a name.
@@ -420,10 +549,14 @@ fn set(
     ensures { AreInRange manner.new.settings.limits }
 {
     let name = String::from_utf8_lossy(rt.alloc(), name)?;
-    let text = String::from_utf8_lossy(rt.alloc(), text)?;
-    if name.as_str() == "story" {
+    if name.as_str() == "story" || (name.as_str() == ALLOW && text == LIBRARY_ERRORS) {
         return Ok(None);
     }
+    if name.as_str() == ALLOW {
+        let reason = "setting 'allow': its only value is 'library errors'";
+        return Ok(Some(String::from_str(rt.alloc(), reason)?));
+    }
+    let text = String::from_utf8_lossy(rt.alloc(), text)?;
     match manner.set(name.as_str(), text.as_str()) {
         Ok(()) => Ok(None),
         Err(error) => Ok(Some(format!(in rt.alloc(); "setting '{name}': {error}")?)),
@@ -454,8 +587,12 @@ fn test_with(
     path: &str,
     walkthrough: &Walkthrough,
     story: &str,
-    bless: bool,
+    suite: &mut Suite<'_>,
 ) -> io::Result<bool> {
+    if let Err(status) = suite.see_story(rt, story) {
+        suite.refused = Some(status);
+        return Ok(false);
+    }
     let settings = walkthrough.settings(rt.alloc())?;
     let manner = match manner_by(rt, settings.as_slice())? {
         Ok(manner) => manner,
@@ -464,7 +601,7 @@ fn test_with(
     match File::open(rt, story) {
         Ok(file) => {
             let story = OpenStory { path: story, file };
-            test_on(rt, path, walkthrough, story, manner, bless)
+            test_on(rt, path, walkthrough, story, manner, suite)
         }
         Err(error) => fail_by(rt, path, story, &error),
     }
@@ -475,9 +612,9 @@ fn story_of(
     rt: &HostRuntime,
     path: &str,
     walkthrough: &Walkthrough,
-    testing: Testing,
+    otherwise: Option<&str>,
 ) -> io::Result<Option<String>> {
-    match (walkthrough.setting("story"), testing.story) {
+    match (walkthrough.setting("story"), otherwise) {
         (Some(story), _) => {
             let story = String::from_utf8_lossy(rt.alloc(), story)?;
             Ok(Some(path_from(rt, path, story.as_str())?))
@@ -488,16 +625,16 @@ fn story_of(
 }
 
 /// Tests a walkthrough, says why it fails if it does, and tells whether it has passed.
-fn test_one(rt: &HostRuntime, path: &str, testing: Testing) -> io::Result<bool> {
+fn test_one(rt: &HostRuntime, path: &str, suite: &mut Suite<'_>) -> io::Result<bool> {
     let bytes = match read_whole(rt, path, MOST_TEXT) {
         Ok(bytes) => bytes,
         Err(error) => return fail_by(rt, path, path, &error),
     };
     let walkthrough = Walkthrough::of(bytes.as_slice());
-    let Some(story) = story_of(rt, path, &walkthrough, testing)? else {
+    let Some(story) = story_of(rt, path, &walkthrough, suite.options.story)? else {
         return fail(rt, path, "it names no story, and neither does --story");
     };
-    test_with(rt, path, &walkthrough, story.as_str(), testing.bless)
+    test_with(rt, path, &walkthrough, story.as_str(), suite)
 }
 
 /// Whether a file is tested that was found by names: other files in a folder are no walkthroughs.
@@ -508,12 +645,13 @@ fn is_tested(path: &str, named: &[&str]) -> bool
     path.as_bytes().ends_with(WALKTHROUGH.as_bytes()) || named.contains(&path)
 }
 
-/// Tests walkthroughs, one after another, says of each how it went, and tells how many have passed and failed.
+/// Tests walkthroughs, one after another, says of each how it went, and tells how many have passed and failed. It ends
+/// where the names or the coverage file are not of a story.
 fn test_each(
     rt: &HostRuntime,
     paths: &[String],
     named: &[&str],
-    testing: Testing,
+    suite: &mut Suite<'_>,
 ) -> io::Result<(u64, u64)> {
     let mut passed = 0u64;
     let mut failed = 0u64;
@@ -522,11 +660,14 @@ fn test_each(
         if !is_tested(path, named) {
             continue;
         }
-        if test_one(rt, path, testing)? {
+        if test_one(rt, path, suite)? {
             println!(rt; "passed {}", Shown(path))?;
             passed = passed.saturating_add(1);
         } else {
             failed = failed.saturating_add(1);
+        }
+        if suite.refused.is_some() {
+            break;
         }
     }
     Ok((passed, failed))
@@ -545,19 +686,50 @@ fn suite_status(passed: u64, failed: u64, all: bool) -> u8
 }
 
 /// Tests the walkthroughs that paths name, and those in folders, and answers the program's status.
-fn test_paths(rt: &HostRuntime, paths: &[&str], testing: Testing) -> io::Result<u8> {
+fn test_paths(rt: &HostRuntime, paths: &[&str], suite: &mut Suite<'_>) -> io::Result<u8> {
     let files = files_of(rt, paths)?;
-    let (passed, failed) = test_each(rt, files.paths.as_slice(), paths, testing)?;
+    let (passed, failed) = test_each(rt, files.paths.as_slice(), paths, suite)?;
+    if let Some(status) = suite.refused {
+        return Ok(status);
+    }
     println!(rt; "{passed} passed, {failed} failed")?;
-    Ok(suite_status(passed, failed, files.all))
+    let status = suite_status(passed, failed, files.all);
+    match &suite.cover {
+        Some(cover) => Ok(cover.write(rt, status)),
+        None => Ok(status),
+    }
 }
 
-/// Tests walkthroughs, and answers the program's status: 4 where what is said can't be written, and 5 where there is no
-/// memory.
-pub fn test(rt: &HostRuntime, paths: &[&str], testing: Testing) -> u8 {
-    match test_paths(rt, paths, testing) {
+/// Tests walkthroughs, as options say, with the bytes of a debugging file, if there is one; and answers the program's
+/// status.
+fn test_told<'r>(
+    rt: &'r HostRuntime,
+    paths: &[&str],
+    options: TestOptions<'r>,
+    bytes: &'r Option<Vec<u8>>,
+) -> u8 {
+    let names = match names_of(rt, options.names, bytes) {
+        Ok(names) => names,
+        Err(status) => return status,
+    };
+    let mut suite = Suite {
+        options,
+        names,
+        cover: None,
+        refused: None,
+    };
+    match test_paths(rt, paths, &mut suite) {
         Ok(status) => status,
         Err(error) if error.kind() == ErrorKind::OutOfMemory => out_of_memory(rt),
         Err(error) => tell_unwritten(rt, &error),
+    }
+}
+
+/// Tests walkthroughs, as options say, and answers the program's status: 4 where what is said can't be written, or the
+/// names or the coverage file are not taken, and 5 where there is no memory.
+pub fn test<'r>(rt: &'r HostRuntime, paths: &[&str], options: TestOptions<'r>) -> u8 {
+    match read_names(rt, options.names) {
+        Ok(bytes) => test_told(rt, paths, options, &bytes),
+        Err(status) => status,
     }
 }

@@ -16,10 +16,11 @@ use std::process::ExitCode;
 use zk_command::arguments::{NO_TEXT, argument_of};
 use zk_command::choice::{Choice, choose, story_named, usage_status_of};
 use zk_command::settings::PlayOptions;
+use zk_program::coverage::report_coverage;
 use zk_program::list::list_all;
-use zk_program::play::{OpenPlay, play};
+use zk_program::play::play_story;
 use zk_program::story_page::make_story_page;
-use zk_program::suite::{Testing, test};
+use zk_program::suite::test;
 use zk_program::told::{out_of_memory, tell_unread, tell_unwritten};
 use zk_program::unpack::unpack;
 use zk_system::files::paths_listed;
@@ -128,18 +129,16 @@ fn answer(rt: &HostRuntime, arguments: &[String], paths: Option<&[String]>) -> u
         _ if !are_text => tell_no_text(rt),
         Ok(Choice::Play { story, options }) => match option_on_story(rt, story, &options) {
             Some(option) => tell_usage(rt, &story_named(rt.alloc(), option)),
-            None => match OpenPlay::new(rt, story, options) {
-                Ok((opened, covering)) => play(rt, &opened, covering),
-                Err(status) => status,
-            },
+            None => play_story(rt, story, options),
         },
+        Ok(Choice::Test { paths, options }) => test(rt, paths.as_slice(), options),
         Ok(
-            Choice::Test {
+            Choice::Cover {
                 paths,
-                story,
-                bless,
+                sources,
+                options,
             },
-        ) => test(rt, paths.as_slice(), Testing { story, bless }),
+        ) => report_coverage(rt, paths.as_slice(), sources.as_slice(), options),
         Ok(Choice::Unpack { file, out }) => unpack(rt, file, out),
         Ok(
             Choice::Page {
