@@ -33,20 +33,20 @@ _zkit() {
         before=${COMP_WORDS[COMP_CWORD - 2]}
     fi
     if [ "$COMP_CWORD" = 1 ]; then
-        _zkit_words "play info disasm check test page unpack help --help --version"
+        _zkit_words "play info disasm check test cover page unpack help --help --version"
         return
     fi
     case $before in
         --frames | --words | --undo | --steps | --at | --routine | --title | --author) return ;;
         --seed) _zkit_words any; return ;;
-        --save | --script | --record | --cover | --files-from | --story | --blurb | --walkthrough) _zkit_all -f; return ;;
-        --saves) _zkit_all -d; return ;;
+        --save | --script | --record | --cover | --names | --files-from | --story | --lcov | --html | --blurb | --walkthrough) _zkit_all -f; return ;;
+        --saves | --source) _zkit_all -d; return ;;
         --width | --page) _zkit_words auto; return ;;
     esac
     case ${COMP_WORDS[1]} in
         play)
             case $word in
-                -*) _zkit_words "--frames --words --undo --steps --seed --save --saves --script --upper --boxes --width --page --styles --echo --record --calls --cover --help" ;;
+                -*) _zkit_words "--frames --words --undo --steps --seed --save --saves --script --upper --boxes --width --page --styles --echo --record --calls --cover --names --help" ;;
                 *) _zkit_files 'z3|z4|z5|z8|zblorb|zlb|blorb|blb' ;;
             esac
             ;;
@@ -70,8 +70,14 @@ _zkit() {
             ;;
         test)
             case $word in
-                -*) _zkit_words "--files-from --story --bless --help" ;;
+                -*) _zkit_words "--files-from --story --bless --cover --names --help" ;;
                 *) _zkit_files 'walkthrough' ;;
+            esac
+            ;;
+        cover)
+            case $word in
+                -*) _zkit_words "--names --source --lcov --html --help" ;;
+                *) _zkit_files 'txt|z3|z4|z5|z8|zblorb|zlb|blorb|blb' ;;
             esac
             ;;
         page)
@@ -86,7 +92,7 @@ _zkit() {
                 *) _zkit_files 'zblorb|zlb|blorb|blb' ;;
             esac
             ;;
-        help) _zkit_words "play info disasm check test page unpack" ;;
+        help) _zkit_words "play info disasm check test cover page unpack" ;;
     esac
 }
 

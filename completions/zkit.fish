@@ -29,6 +29,7 @@ complete -c zkit -n '__fish_seen_subcommand_from play' -l echo -d 'Repeats each 
 complete -c zkit -n '__fish_seen_subcommand_from play' -l record -r -F -d 'Records the commands to this file as a walkthrough, emptied first'
 complete -c zkit -n '__fish_seen_subcommand_from play' -l calls -d 'Prints the call stack after a fault or limit'
 complete -c zkit -n '__fish_seen_subcommand_from play' -l cover -r -F -d 'Adds the addresses of executed instructions to this coverage file'
+complete -c zkit -n '__fish_seen_subcommand_from play' -l names -r -F -d 'Names routines and source lines by this debugging file, which `inform6 -k` writes'
 complete -c zkit -n '__fish_seen_subcommand_from play' -l help -d 'Shows help'
 complete -c zkit -n '__fish_seen_subcommand_from play' -a '(__zkit_files "z3|z4|z5|z8|zblorb|zlb|blorb|blb")'
 
@@ -79,8 +80,18 @@ complete -c zkit -n __fish_use_subcommand -a test -d 'Plays walkthroughs and com
 complete -c zkit -n '__fish_seen_subcommand_from test' -l files-from -r -F -d 'Reads paths from this file, or from standard input for -, separated by new lines or zero bytes'
 complete -c zkit -n '__fish_seen_subcommand_from test' -l story -r -F -d 'Default story, for walkthroughs that name none'
 complete -c zkit -n '__fish_seen_subcommand_from test' -l bless -d 'Writes the expected transcripts instead of comparing them'
+complete -c zkit -n '__fish_seen_subcommand_from test' -l cover -r -F -d 'Adds the addresses of executed instructions to this coverage file'
+complete -c zkit -n '__fish_seen_subcommand_from test' -l names -r -F -d 'Names routines and source lines by this debugging file, which `inform6 -k` writes'
 complete -c zkit -n '__fish_seen_subcommand_from test' -l help -d 'Shows help'
 complete -c zkit -n '__fish_seen_subcommand_from test' -a '(__zkit_files "walkthrough")'
+
+complete -c zkit -n __fish_use_subcommand -a cover -d 'Tells what plays have run, by coverage files'
+complete -c zkit -n '__fish_seen_subcommand_from cover' -l names -r -F -d 'Names routines and source lines by this debugging file, which `inform6 -k` writes'
+complete -c zkit -n '__fish_seen_subcommand_from cover' -l source -x -a '(__fish_complete_directories)' -d 'Looks for the files of the source in this folder'
+complete -c zkit -n '__fish_seen_subcommand_from cover' -l lcov -r -F -d 'Writes the coverage to this file, for lcov'
+complete -c zkit -n '__fish_seen_subcommand_from cover' -l html -r -F -d 'Writes the coverage to this file, as a page for browsers'
+complete -c zkit -n '__fish_seen_subcommand_from cover' -l help -d 'Shows help'
+complete -c zkit -n '__fish_seen_subcommand_from cover' -a '(__zkit_files "txt|z3|z4|z5|z8|zblorb|zlb|blorb|blb")'
 
 complete -c zkit -n __fish_use_subcommand -a page -d 'Makes a page for browsers that plays a story'
 complete -c zkit -n '__fish_seen_subcommand_from page' -l title -x -d 'The story\'s title'

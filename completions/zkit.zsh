@@ -9,6 +9,7 @@ local -a commands=(
     'disasm:Disassembles the code reachable from the start'
     'check:Checks stories for damage and mistakes, and ends with status 6 if it finds any'
     'test:Plays walkthroughs and compares the output with their transcripts'
+    'cover:Tells what plays have run, by coverage files'
     'page:Makes a page for browsers that plays a story'
     'unpack:Takes the story out of a Blorb file'
     'help:Shows help'
@@ -38,6 +39,7 @@ case $words[1] in
             '--record=[Records the commands to this file as a walkthrough, emptied first]:file:_files' \
             '--calls[Prints the call stack after a fault or limit]' \
             '--cover=[Adds the addresses of executed instructions to this coverage file]:file:_files' \
+            '--names=[Names routines and source lines by this debugging file, which `inform6 -k` writes]:file:_files' \
             '(- *)--help[Shows help]' \
             '1:story:_files -g "(#i)*.(z3|z4|z5|z8|zblorb|zlb|blorb|blb)(-.)"'
         ;;
@@ -92,8 +94,19 @@ case $words[1] in
             '--files-from=[Reads paths from this file, or from standard input for -, separated by new lines or zero bytes]:file:_files' \
             '--story=[Default story, for walkthroughs that name none]:file:_files' \
             '--bless[Writes the expected transcripts instead of comparing them]' \
+            '--cover=[Adds the addresses of executed instructions to this coverage file]:file:_files' \
+            '--names=[Names routines and source lines by this debugging file, which `inform6 -k` writes]:file:_files' \
             '(- *)--help[Shows help]' \
             '*:path:_files -g "(#i)*.(walkthrough)(-.)"'
+        ;;
+    cover)
+        _arguments \
+            '--names=[Names routines and source lines by this debugging file, which `inform6 -k` writes]:file:_files' \
+            '*--source=[Looks for the files of the source in this folder]:folder:_files -/' \
+            '--lcov=[Writes the coverage to this file, for lcov]:file:_files' \
+            '--html=[Writes the coverage to this file, as a page for browsers]:file:_files' \
+            '(- *)--help[Shows help]' \
+            '*:cover... story:_files -g "(#i)*.(txt|z3|z4|z5|z8|zblorb|zlb|blorb|blb)(-.)"'
         ;;
     page)
         _arguments \

@@ -44,6 +44,7 @@ TAKES = {
     "disasm": "[OPTIONS] <STORY>",
     "check": "[OPTIONS] <STORY>...",
     "test": "[OPTIONS] <PATH>...",
+    "cover": "[OPTIONS] <FILE>...",
     "unpack": "<FILE> <OUT>",
 }
 

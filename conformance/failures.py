@@ -40,6 +40,10 @@ FAILED_TEST = re.compile(
     r"FAILED (\S+): (?:\S+: out of memory|the play ended with status 5\n    zkit: out of memory\n    )\n"
 )
 NOT_SAVED = re.compile(r"(?<=: the game was not saved: ).*")
+# What is told of a coverage file, or a file of a report, for which memory lacks.
+UNWRITTEN = re.compile(r"zkit: (\w+): out of memory\nzkit: write failed\n")
+# A line on a routine that is open, by addresses or in lines of the source.
+CALL = re.compile(r"zkit: (\S.*:\d+ |[0-9a-f]{5} )?in ")
 
 
 class Plan:
@@ -161,6 +165,21 @@ def is_failed_test(plan: Plan, came: Came, whole: Came) -> bool:
     )
 
 
+def is_unwritten(plan: Plan, came: Came, whole: Came) -> bool:
+    """Whether a run has not written its coverage or its report for lack of memory, and says so."""
+    found = UNWRITTEN.fullmatch(came.told)
+    return (
+        found is not None
+        and found[1] in plan.words
+        and came.status == 4
+        and whole.status == 0
+        and found[1] not in came.names
+        and set(came.names) <= set(whole.names)
+        and whole.shown.startswith(came.shown)
+        and (came.kept, came.said, came.story) == (whole.kept, whole.said, whole.story)
+    )
+
+
 def outcome(plan: Plan, came: Came, whole: Came, unsaved: Came) -> str | None:
     """What came of a run with a refused allocation, in words, or nothing where it may not be."""
     if came == whole:
@@ -171,12 +190,14 @@ def outcome(plan: Plan, came: Came, whole: Came, unsaved: Came) -> str | None:
         return "left out a story"
     if is_failed_test(plan, came, whole):
         return "failed a test"
+    if is_unwritten(plan, came, whole):
+        return "wrote no file"
     # as one whose save was refused for another reason
     if came == unsaved._replace(told=NOT_SAVED.sub("out of memory", unsaved.told)):
         return "refused the save"
     # there was no memory for the lines in words, or for those of the calls
     lines = whole.told.splitlines(keepends=True)
-    fewer = ["".join(lines[-1:]), "".join(it for it in lines if not it.startswith("zkit: in "))]
+    fewer = ["".join(lines[-1:]), "".join(it for it in lines if not CALL.match(it))]
     if whole.status not in (0, 5) and came._replace(told="") == whole._replace(told="") and came.told in fewer:
         return "left out the words"
     return None

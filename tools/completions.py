@@ -7,10 +7,16 @@ from typing import NamedTuple, TypeVar
 
 from option_table import VALUES, Option, read_abouts, read_commands, read_screen
 
-# What files end with: those of Blorb, stories, and walkthroughs.
+# What files end with: those of Blorb, stories, walkthroughs, and coverage files.
 BLORBS = ["zblorb", "zlb", "blorb", "blb"]
 STORIES = ["z3", "z4", "z5", "z8", *BLORBS]
-ENDINGS = {"STORY": STORIES, "STORY OUT": [*STORIES, "html"], "PATH": ["walkthrough"], "FILE": BLORBS}
+ENDINGS = {
+    "STORY": STORIES,
+    "STORY OUT": [*STORIES, "html"],
+    "COVER... STORY": ["txt", *STORIES],
+    "PATH": ["walkthrough"],
+    "FILE": BLORBS,
+}
 
 T = TypeVar("T")
 FILE, FOLDER = VALUES["File"], VALUES["Folder"]
@@ -157,7 +163,7 @@ def zsh_option(option: Option) -> str:
     """What _arguments takes of an option."""
     does = {FILE: ":file:_files", FOLDER: ":folder:_files -/", "": ""}.get(option.value, f":{option.value.lower()}: ")
     does = f":{option.values()}:({option.word})" if option.word else does
-    before = "*" if option.value == VALUES["Address"] else "(- *)" if option in GENERAL else ""
+    before = "*" if option.again else "(- *)" if option in GENERAL else ""
     equals = "=" if option.value else ""
     told = zsh_quoted(option.help)[1:-1]
     return f"'{before}--{option.name}{equals}[{told}]{does}'"

@@ -16,7 +16,9 @@ SECTIONS = TOP / "crates" / "zk_inspect" / "src" / "section.rt"
 SCREEN = TOP / "screen" / "main.c"
 
 # What stands after an option of each kind.
-VALUES = {"File": "FILE", "Folder": "FOLDER", "Line": "TEXT", "Address": "ADDRESS", "Flag": ""}
+VALUES = {"File": "FILE", "Folder": "FOLDER", "Folders": "FOLDER", "Line": "TEXT", "Address": "ADDRESS", "Flag": ""}
+# The kinds of options that may be given several times.
+REPEATED = ("Folders", "Address")
 
 
 class Option(NamedTuple):
@@ -29,6 +31,7 @@ class Option(NamedTuple):
     most: int = 0
     default: Optional[int] = None
     word: str = ""
+    again: bool = False
 
     def values(self) -> str:
         """What stands after the option."""
@@ -36,7 +39,7 @@ class Option(NamedTuple):
 
     def usage(self) -> str:
         """The option as a usage line has it."""
-        again = "..." if self.value == VALUES["Address"] else ""
+        again = "..." if self.again else ""
         return f"[--{self.name}{self.value and ' ' + self.values()}]{again}"
 
 
@@ -65,11 +68,14 @@ def read_options(text: str, constant: str) -> list[Option]:
     known = {**read_numbers(text), **read_shared(text)}
     listed = text[text.index(f"const {constant}:"):].split("= [", 1)[1].split("];")[0]
     row = (
-        r'CommandOption::(?:Number\((\w+)\)|(File|Folder|Line|Address|Flag) \{\s*name: "([\w-]+)",\s*help: "([^"]*)")'
+        r"CommandOption::(?:Number\((\w+)\)|(File|Folder|Folders|Line|Address|Flag) \{"
+        r'\s*name: "([\w-]+)",\s*help: "([^"]*)")'
         r"|\b([A-Z_]{4,}),?"
     )
     return [
-        known[number or shared] if number or shared else Option(name, told, VALUES[kind])
+        known[number or shared]
+        if number or shared
+        else Option(name, told, VALUES[kind], again=kind in REPEATED)
         for number, kind, name, told, shared in re.findall(row, listed)
     ]
 
@@ -93,6 +99,7 @@ def read_commands() -> list[tuple[str, list[Option], str]]:
         ("disasm", read_options(text, "DISASM_OPTIONS"), "STORY"),
         ("check", read_options(text, "CHECK_OPTIONS"), "STORY..."),
         ("test", read_options(text, "TEST_OPTIONS"), "PATH..."),
+        ("cover", read_options(text, "COVER_OPTIONS"), "COVER... STORY"),
         ("page", read_options(text, "PAGE_OPTIONS"), "STORY OUT"),
     ]
 
