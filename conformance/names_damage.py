@@ -19,7 +19,7 @@ ODD = (
 )
 # What is no text in UTF-8, or has a character that XML does not allow.
 NO_TEXT = (
-    b"\xff", b"\xc3", b"\xc0\x80", b"\xed\xa0\x80", b"\xf4\x90\x80\x80", b"\0", b"\x01", b"\x1b", b"\xef\xbf\xbe",
+    b"\xff", b"\xc3", b"\xc0\x80", b"\xed\xa0\x80", b"\xf4\x90\x80\x80", b"\0", b"\x01", b"\x1b",
 )
 ENTITIES = (
     b"&amp;", b"&lt;", b"&gt;", b"&quot;", b"&apos;", b"&#65;", b"&#x41;", b"&", b"&nbsp;", b"&amp", b"&;", b"&#0;",

@@ -28,6 +28,8 @@ Traced = dict[str, object]
 IN_ROUTINE = re.compile("zkit: in routine ([0-9a-f]{5})(?: with ([0-9a-f ]+))?, called at ([0-9a-f]{5})")
 AND_MORE = re.compile(r"zkit: and in (\d+) more")
 # How many of the routines that are open are told: the innermost ones, and as many of the outermost ones.
+# Lines behind this one are no lines of code.
+LAST_LINE = 1_000_000
 TOLD = 8
 
 
@@ -154,7 +156,8 @@ class Report:
         self.ran = listing.ran
         self.places: dict[Place, bool] = {}  # those that sequence points name, and whether they ran
         for at, place in (it for routine in named.routines for it in routine.points):
-            self.places[place] = self.places.get(place, False) or at in self.ran
+            if place[1] <= LAST_LINE:
+                self.places[place] = self.places.get(place, False) or at in self.ran
 
     def lines_of(self, file: int) -> dict[int, bool]:
         """The lines of a file that have code, and whether they ran."""
@@ -176,13 +179,19 @@ class Report:
         """How many of the texts that routines print were shown."""
         return share(at in self.ran for at in self.texts_of(routines))
 
+    def shown_in(self, file: Optional[int]) -> str:
+        """How many of the texts that stand in a file, or have no place, were shown."""
+        places = {at: self.named.place_at(at) for at in self.listing.texts}
+        return share(at in self.ran for at, place in places.items() if (place[0] if place else None) == file)
+
     def files(self) -> list[int]:
         """The numbers of the source files that have code."""
         return [it for it in self.named.sources if self.routines_of(it) or self.lines_of(it)]
 
     def routine_line(self, routine: Routine, place: Place) -> str:
         """The line of a routine in a summary."""
-        lines = {line: self.places[file, line] for _, (file, line) in routine.points if file == place[0]}
+        points = [(file, line) for _, (file, line) in routine.points if line <= LAST_LINE]
+        lines = {line: self.places[file, line] for file, line in points if file == place[0]}
         return f"  {routine.name} at line {place[1]}: {share(lines.values())} lines, {self.shown_of([routine])} texts"
 
     def summary(self) -> list[str]:
@@ -190,11 +199,11 @@ class Report:
         told = []
         for file in self.files():
             within, lines = self.routines_of(file), share(self.lines_of(file).values())
-            routines = f"{share(map(self.has_run, within))} routines, {self.shown_of(within)} texts"
+            routines = f"{share(map(self.has_run, within))} routines, {self.shown_in(file)} texts"
             told.append(f"{self.named.sources[file]}: {lines} lines, {routines}")
             told += [self.routine_line(it, it.place) for it in within if it.place]
         without = self.routines_of(None)
-        told.append(f"without a source: {share(map(self.has_run, without))} routines, {self.shown_of(without)} texts")
+        told.append(f"without a source: {share(map(self.has_run, without))} routines, {self.shown_in(None)} texts")
         routines = f"{share(map(self.has_run, self.named.routines))} routines"
         texts = f"{share(at in self.ran for at in self.listing.texts)} texts"
         told.append(f"all: {share(self.places.values())} lines, {routines}, {texts}")

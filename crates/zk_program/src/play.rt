@@ -209,8 +209,8 @@ pub struct Covering<'a> {
     file: Option<CoverFile<'a>>,
 }
 
-/// Sees that names are of a story, if there are some, and finds the coverage file for a play of it, if options name one;
-/// or answers the program's status, where it is told why the story, the names or the file are not taken.
+/// Sees that names are of a story, if there are some, and finds the coverage file for a play of it, if there is one; or
+/// answers the program's status, where it is told why the story, the names or the file are not taken.
 fn covering_of<'a>(
     rt: &HostRuntime,
     options: &PlayOptions<'a>,
