@@ -169,7 +169,8 @@ class Report:
 
     def has_run(self, routine: Routine) -> bool:
         """Whether the first instruction of a routine ran."""
-        return self.listing.first_instruction(routine.address) in self.ran
+        first = next((at for at in sorted(self.listing.words) if at > routine.address), None)
+        return first is not None and routine.has(first) and first in self.ran
 
     def texts_of(self, routines: Iterable[Routine]) -> list[int]:
         """The addresses of the texts that routines print."""
