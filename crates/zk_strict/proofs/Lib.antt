@@ -1,0 +1,4 @@
+pub mod Stacks
+pub mod Taken
+pub mod Told
+pub mod guards
