@@ -18,6 +18,7 @@ use crate::header::{Header, header_at_front, word_of};
 use crate::story::Story;
 use std::alloc::{AllocError, Global};
 use std::marker::Model;
+use std::sync::ArcSlice;
 
 /// What a screen has, as a story is told of it from version 4 on (Z-Machine Standards Document 1.1, section 8.4).
 #[derive(Clone, Copy, PartialEq, Eq, Drop)]
@@ -59,7 +60,8 @@ pub struct Memory {
     readable: u32,
     setup: Setup,
     bytes: Vec<u8>,
-    file: Vec<u8>,
+    // that of the story, which other machines may share
+    file: ArcSlice<u8, Global>,
 }
 
 impl Model for Memory {
@@ -71,11 +73,11 @@ impl Model for Memory {
       version = m.header.version;
       static_base = m.header.static_base;
       bytes = m.bytes.items;
-      file = m.file.items;
+      file = m.file.items.value.items;
       setup = m.setup;
     } };
 
-    ghost invariant = { λ m. IsWhole m.header m.readable m.bytes.items m.file.items };
+    ghost invariant = { λ m. IsWhole m.header m.readable m.bytes.items m.file.items.value.items };
 }
 
 fn set_standard(bytes: &mut Vec<u8>)
@@ -204,6 +206,21 @@ impl Memory {
         })
     }
 
+    /// A memory of its own, as this one stands. The two share the story's file.
+    pub fn try_clone(&self, alloc: Global) -> Result<Memory, AllocError>
+        ensures { IfOk result (λ m. m ≡ self.now) }
+    {
+        let bytes = Vec::from_slice(alloc, self.bytes.as_slice())?;
+        let file = self.file.clone()?;
+        Ok(Memory {
+            header: self.header,
+            readable: self.readable,
+            setup: self.setup,
+            bytes,
+            file,
+        })
+    }
+
     /// The byte at an address, or `BadAddress` outside readable data.
     #[tactic(auto, unfolding(crate::specs::Map::byte_at))]
     pub fn byte(&self, address: u32) -> Result<u8, Fault>
@@ -277,7 +294,7 @@ impl Memory {
         ensures { self.new ≡ with_bytes self.old self.old.file }
     {
         let base = self.header.static_base as usize;
-        copy_bytes(&mut self.bytes, &self.file[..base]);
+        copy_bytes(&mut self.bytes, &self.file.as_slice()[..base]);
     }
 
     /// Turns bits of a byte of dynamic memory: those that are set in `bits`.

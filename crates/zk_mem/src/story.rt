@@ -7,8 +7,9 @@ ghost use Rattle.zk_mem.specs.Checksum.{has_right_sum};
 
 use crate::checksum::is_right;
 use crate::header::{Header, header_at_front, word_of};
-use std::alloc::Global;
+use std::alloc::{AllocError, Global};
 use std::marker::Model;
+use std::sync::ArcSlice;
 use thiserror::Error;
 
 /// Why a file is no story, in the order in which it is looked for.
@@ -51,10 +52,11 @@ impl OpenError {
     }
 }
 
-/// A story file: bytes that are a story (Z-Machine Standards Document 1.1, sections 1 and 11).
+/// A story file: bytes that are a story (Z-Machine Standards Document 1.1, sections 1 and 11). Any number of machines
+/// may share it.
 #[derive(Drop)]
 pub struct Story {
-    pub(crate) bytes: Vec<u8>,
+    pub(crate) bytes: ArcSlice<u8, Global>,
 }
 
 impl Model for Story {
@@ -64,9 +66,9 @@ impl Model for Story {
 
     ghost use Rattle.zk_mem.specs.Story.{refusal};
 
-    ghost view = { λ s. s.bytes.items };
+    ghost view = { λ s. s.bytes.items.value.items };
 
-    ghost invariant = { λ s. refusal s.bytes.items ≡ None };
+    ghost invariant = { λ s. refusal s.bytes.items.value.items ≡ None };
 }
 
 impl Story {
@@ -80,21 +82,34 @@ impl Story {
         if let Some(e) = refusal_of(file) {
             return Err(e);
         }
-        match Vec::from_slice(alloc, file) {
+        match ArcSlice::from_slice(alloc, file) {
             Ok(bytes) => Ok(Story { bytes }),
             Err(_) => Err(OpenError::OutOfMemory),
         }
     }
 
-    /// The story of a file's bytes, which it keeps and doesn't copy, or the first reason why they are no story.
+    /// The story of a file's bytes, which it keeps and doesn't copy, or the first reason why they are no story. Want
+    /// of memory is looked for last.
     pub fn of(file: Vec<u8>) -> Result<Story, OpenError>
         ensures ok { IfOk result (λ s. (s ≡ file.items) × (refusal file.items ≡ None)) }
-        ensures err { IfErr result (λ e. refusal file.items ≡ Some e) }
+        ensures err { IfErr result (λ e. (refusal file.items ≡ Some e)
+            ⊎ ((e ≡ OpenError.OutOfMemory) × (refusal file.items ≡ None))) }
     {
-        match refusal_of(file.as_slice()) {
-            None => Ok(Story { bytes: file }),
-            Some(e) => Err(e),
+        if let Some(e) = refusal_of(file.as_slice()) {
+            return Err(e);
         }
+        match ArcSlice::from_vec(file) {
+            Ok(bytes) => Ok(Story { bytes }),
+            Err(_) => Err(OpenError::OutOfMemory),
+        }
+    }
+
+    /// The same story once more, over the same bytes.
+    pub fn try_clone(&self) -> Result<Story, AllocError>
+        ensures { IfOk result (λ s. s ≡ self.now) }
+    {
+        let bytes = self.bytes.clone()?;
+        Ok(Story { bytes })
     }
 
     /// What the file's header says.

@@ -1,9 +1,12 @@
 -- A ring, newest first, and the bytes of packed bytes.
 use Rattle.std.specs.Prelude.{reverse, slice_get, unwrap_or}
-use Rattle.std.proofs.Common.{◌≡◌, ℕ, suc, ◌-◌, ◌≤◌, List, [], ◌∷◌, ◌++◌, length, take, drop, get_or, Option, Some}
+use Rattle.std.proofs.Common.{◌≡◌, ℕ, suc, ◌+◌, ◌-◌, ◌<◌, ◌≤◌, List, [], ◌∷◌, ◌++◌}
+use Rattle.std.proofs.Common.{length, take, drop, get_or, Option, Some}
 use Rattle.std.proofs.Common.{None, refl, ap, sym, ◌∙◌, arith, length-drop, drop-cons, min, ⊎_elim}
-use Rattle.std.proofs.lemmas.List.{reverse-append, length-reverse, take_at, take-append-drop, take_min, drop_all}
-use Rattle.std.proofs.lemmas.Option.{unwrap_or-slice_get, slice_get_past}
+use Rattle.std.proofs.Math.Seq.{take-suc}
+use Rattle.std.proofs.lemmas.List.{reverse-append, length-reverse, length-take-le, take_at, take-append-drop, take_min}
+use Rattle.std.proofs.lemmas.List.{drop_all}
+use Rattle.std.proofs.lemmas.Option.{get_or_from_slice_get, slice_get_within, unwrap_or-slice_get, slice_get_past}
 use Rattle.std.proofs.lemmas.Bool.{cases_lt}
 use Rattle.circular_buffer.specs.Buffer.{keep_last, last_item}
 use Rattle.zk_save.specs.Packing.{packed}
@@ -63,3 +66,15 @@ unfolding bytes_in
 bytes_back items bytes file le e =
     let long : length (xored bytes file) ≡ length bytes = length-xored bytes file le in
     rw (e, ← long, comes_back (xored bytes file)) refl
+
+-- one more item behind the first ones, where there is room for all
+pub ring_cloned : (xs : List KeptState) (x : KeptState) (k n : ℕ) → slice_get xs k ≡ Some x → length xs ≤ n
+    → keep_last n (take k xs ++ x ∷ []) ≡ take (k + 1) xs
+ring_cloned xs x k n there room =
+    let within : k < length xs = slice_get_within xs k x there in
+    let next : k + 1 ≡ suc k = omega arith in
+    let more : take (suc k) xs ≡ take k xs ++ x ∷ [] = take-suc xs k x within
+    ∙ ap (λ (y : KeptState). take k xs ++ y ∷ []) (get_or_from_slice_get xs k x x there) in
+    let long : length (take (suc k) xs) ≡ suc k = length-take-le (suc k) xs (omega (arith, within)) in
+    let none : suc k - n ≡ 0 = omega (arith, within, room) in
+    rw (← more, long, none, next) refl

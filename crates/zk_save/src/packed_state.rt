@@ -67,6 +67,20 @@ impl PackedState {
         })
     }
 
+    /// The same state, kept once more.
+    pub(crate) fn try_clone(&self, alloc: Global) -> Result<PackedState, AllocError>
+        ensures { IfOk result (λ k. k ≡ self.now) }
+    {
+        let packed = Vec::from_slice(alloc, self.packed.as_slice())?;
+        let frames = self.frames.try_clone(alloc)?;
+        Ok(PackedState {
+            packed,
+            length: self.length,
+            frames,
+            pc: self.pc,
+        })
+    }
+
     /// Puts the state's memory and frames in the place of these, and tells where the run goes on.
     pub(crate) fn put_back(&self, memory: &mut Memory, frames: &mut Frames) -> u32
         requires { IsOf memory.old.static_base frames.old.most_frames frames.old.most_words

@@ -4,6 +4,7 @@ ghost use Rattle.std.specs.Prelude.{◌≡◌, ◌<◌, ◌≤◌, ◌^◌, [], 
 ghost use Rattle.std.specs.Prelude.{MatchOption, IsOk, IfOk, OnOk, OnErr};
 ghost use Rattle.zk_mem.specs.Map.{MemoryMap};
 ghost use Rattle.zk_state.specs.Frames.{FrameList, bounds_of, frames_of};
+ghost use Rattle.circular_buffer.specs.Buffer.{buffer};
 ghost use Rattle.zk_save.specs.States.{WholeState, state_of, states_in, packed_of, gone_back, AreOf};
 
 use crate::packed_state::{PackedState, StateView};
@@ -38,6 +39,26 @@ impl Model for Undo {
 /// Lets a state go.
 fn forget(_oldest: Option<PackedState>) {}
 
+/// Puts the states of a ring behind those of another, which has room for them.
+fn put_clones(
+    alloc: Global,
+    ring: &HeapCircularBuffer<PackedState>,
+    clones: &mut HeapCircularBuffer<PackedState>,
+) -> Result<(), AllocError>
+    requires empty { clones.old.items ≡ [] }
+    requires room { length ring.now.items ≤ clones.old.capacity }
+    ensures { OnOk result (clones.new ≡ buffer ring.now.items clones.old.capacity) }
+{
+    for k in 0..ring.len() {
+        let Some(kept) = ring.get(k) else {
+            unreachable!();
+        };
+        let kept = kept.try_clone(alloc)?;
+        forget(clones.push_back(kept));
+    }
+    Ok(())
+}
+
 impl Undo {
     /// No state so far, and room for the newest `most`. For none at all no memory is asked for.
     #[tactic(auto, using(crate::proofs::Wholes::none_of))]
@@ -61,6 +82,17 @@ impl Undo {
             most,
             alloc,
         })
+    }
+
+    /// The same states, kept once more.
+    pub fn try_clone(&self) -> Result<Undo, AllocError>
+        ensures { IfOk result (λ u. u ≡ self.now) }
+    {
+        let mut undo = Undo::new(self.alloc, self.most as u8)?;
+        if let (Some(ring), Some(clones)) = (&self.ring, &mut undo.ring) {
+            put_clones(self.alloc, ring, clones)?;
+        }
+        Ok(undo)
     }
 
     /// How many states there are.

@@ -155,6 +155,21 @@ fn fill_words(words: &mut Vec<u16>, at: usize, count: usize, from: &[u16])
     }
 }
 
+impl FramesCopy {
+    /// The same frames, in a copy of their own.
+    pub fn try_clone(&self, alloc: Global) -> Result<FramesCopy, AllocError>
+        ensures { IfOk result (λ c. c ≡ self.now) }
+    {
+        let callers = Vec::from_slice(alloc, self.callers.as_slice())?;
+        let words = Vec::from_slice(alloc, self.words.as_slice())?;
+        Ok(FramesCopy {
+            current: self.current,
+            callers,
+            words,
+        })
+    }
+}
+
 impl Frames {
     /// The first frame alone, without local variables and words (Standard, section 5.5). There may
     /// be at most `most_frames` frames, the first among them, and `most_words` words.
@@ -244,6 +259,21 @@ impl Frames {
             current: self.records.current(),
             callers,
             words,
+        })
+    }
+
+    /// Frames of their own, as these stand.
+    pub fn try_clone(&self, alloc: Global) -> Result<Frames, AllocError>
+        ensures { IfOk result (λ s. s ≡ self.now) }
+    {
+        let records = self.records.try_clone(alloc)?;
+        let words = Vec::from_slice(alloc, self.words.as_slice())?;
+        Ok(Frames {
+            records,
+            words,
+            top: self.top,
+            most_frames: self.most_frames,
+            most_words: self.most_words,
         })
     }
 

@@ -85,6 +85,19 @@ impl Records {
         })
     }
 
+    /// The same records, in a list of their own.
+    pub(crate) fn try_clone(&self, alloc: Global) -> Result<Records, AllocError>
+        ensures { IfOk result (λ r. r ≡ self.now) }
+    {
+        let all = Vec::from_slice(alloc, self.all.as_slice())?;
+        Ok(Records {
+            all,
+            depth: self.depth,
+            base: self.base,
+            stack_base: self.stack_base,
+        })
+    }
+
     /// How many callers there are.
     #[inline(always)]
     pub(crate) fn depth(&self) -> usize

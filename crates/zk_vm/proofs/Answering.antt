@@ -14,6 +14,7 @@ use Rattle.zk_save.specs.States.{AreOf, UndoStates, WholeState, gone_back, memor
 use Rattle.zk_term.specs.Windows.{Windows}
 use Rattle.zk_step.specs.declared.state.ending.Event.{Event}
 use Rattle.zk_step.specs.declared.state.ending.Event.TheVariants as event
+use Rattle.zk_step.specs.declared.state.random.Generators.{Generators}
 use Rattle.zk_step.specs.declared.state.game_state.GameState.{GameState}
 use Rattle.zk_step.specs.Inputs.{character_answered, line_answered, result_answered}
 use Rattle.zk_step.specs.Restarts.{windows_closed}
@@ -410,10 +411,11 @@ went_back_by_host m n g saved undo led w pc steps stopped answer is asks gone mo
           (sym (undone_is (state_seen m) n g saved (states_in m.game.memory.file undo) gone)) (refl, left),
     )
 
-can_still : (s : State) (v : Windows) (l : Limits) (stopped : Option Stop) (x : Option Waiting)
-    → CanAnswer s l stopped x → CanAnswer (record s { game = record s.game { windows = v } }) l stopped x
-can_still s v l stopped None can = tt
-can_still s v l stopped (Some w) can =
+can_still : (s : State) (v : Windows) (x : Generators) (l : Limits) (stopped : Option Stop) (waits : Option Waiting)
+    → CanAnswer s l stopped waits
+    → CanAnswer (record s { game = record s.game { windows = v; generators = x } }) l stopped waits
+can_still s v x l stopped None can = tt
+can_still s v x l stopped (Some w) can =
     record {
       reads = can.reads;
       steps = can.steps;
@@ -425,19 +427,23 @@ can_still s v l stopped (Some w) can =
       fetched = can.fetched;
     }
 
--- whatever its windows are
-pub windows_changed : (m : Inside) (windows : Windows) → IsSound m
-    → IsSound (record m { game = record m.game { windows = windows } })
-windows_changed m windows is = record {
+-- whatever its windows and its random numbers are
+pub changed : (m : Inside) (windows : Windows) (generators : Generators) → IsSound m
+    → IsSound (record m { game = record m.game { windows = windows; generators = generators } })
+changed m windows generators is = record {
   steps = is.steps;
   bounds = is.bounds;
   reads = is.reads;
   most = is.most;
   story = story_same m.stopped is.story;
-  waits = can_still (state_seen m) windows m.limits m.stopped m.waiting is.waits;
+  waits = can_still (state_seen m) windows generators m.limits m.stopped m.waiting is.waits;
 }
   where
     story_same : (x : Option Stop) → WhileRunning x (IsOfStory m)
-        → WhileRunning x (IsOfStory (record m { game = record m.game { windows = windows } }))
+        → WhileRunning x (IsOfStory (record m { game = record m.game { windows = windows; generators = generators } }))
     story_same None has = record { are_of = has.are_of; memory = has.memory; cache = has.cache }
     story_same (Some stop) has = tt
+
+pub windows_changed : (m : Inside) (windows : Windows) → IsSound m
+    → IsSound (record m { game = record m.game { windows = windows } })
+windows_changed m windows is = changed m windows m.game.generators is

@@ -3,6 +3,7 @@ pub mod Ahead
 pub mod AnswerSteps
 pub mod Answering
 pub mod Asking
+pub mod Changing
 pub mod CleanRuns
 pub mod FrameLimits
 pub mod Going

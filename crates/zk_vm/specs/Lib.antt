@@ -1,6 +1,7 @@
 pub mod Answers
 pub mod Bounds
 pub mod Calls
+pub mod Changes
 pub mod Going
 pub mod Halts
 pub mod Laws

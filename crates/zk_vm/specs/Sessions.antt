@@ -74,6 +74,18 @@ with_height s lines =
     then with_windows s (split s.state.game.memory.version lines s.state.game.windows)
     else s
 
+-- a machine whose random numbers begin anew with a seed; those that the story itself has made predictable stay so
+-- (section 15, `random`)
+abbrev pub with_seed : Session → ℕ → Session
+with_seed s seed =
+    record s {
+      state = record s.state {
+        game = record s.state.game {
+          generators = record s.state.game.generators { free = seed };
+        };
+      };
+    }
+
 -- a machine that was answered
 abbrev pub resumed : Session → Verdict → State → Session
 resumed s GoesOn next = record s { state = next; waiting = None }

@@ -7,11 +7,13 @@ ghost use Rattle.zk_vm.specs.Bounds.{AreInRange};
 ghost use Rattle.zk_vm.specs.Going.{stop_by, verdict_by, pc_by, steps_by, stopped_by};
 ghost use Rattle.zk_vm.specs.Halts.{event_waited, halt_by};
 ghost use Rattle.zk_vm.specs.Laws.{IsWithin};
-ghost use Rattle.zk_vm.specs.Sessions.{begun, first_game, with_grid_forgotten, with_height, with_stop};
+ghost use Rattle.zk_vm.specs.Sessions.{begun, first_game, with_grid_forgotten, with_height, with_seed, with_stop};
 ghost use Rattle.zk_vm.specs.Step.{is_read};
 
 mod answers;
 pub mod calls;
+pub mod changing;
+mod cloning;
 pub mod parts;
 pub mod pausing;
 mod step;
@@ -193,6 +195,14 @@ impl Machine {
         ensures { self.new ≡ with_height self.old lines }
     {
         self.game.windows.split(self.game.memory.version(), lines);
+    }
+
+    /// Begins the random numbers anew with a seed. Those that the story itself has made predictable stay so (Z-Machine
+    /// Standards Document 1.1, section 15, `random`).
+    pub fn reseed(&mut self, seed: u64)
+        ensures { self.new ≡ with_seed self.old seed }
+    {
+        self.game.generators.free = seed;
     }
 
     /// Ends the machine with a stop, in place of one that it may have. It waits for nothing.

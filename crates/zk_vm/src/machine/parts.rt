@@ -3,9 +3,11 @@
 
 ghost use Rattle.std.specs.Prelude.{◌≡◌, ◌≤◌, ◌<◌, ◌^◌, true, [], None, Ok, IfOk, IfSome, OnSome};
 ghost use Rattle.zk_code.specs.Reading.{instr_at};
+ghost use Rattle.zk_fast.specs.Caches.{IsCacheOf};
 ghost use Rattle.zk_save.specs.States.{states_in, AreOf};
+ghost use Rattle.zk_step.specs.Laws.{fixed_parts};
 ghost use Rattle.zk_state.specs.Frames.{bounds_of};
-ghost use Rattle.zk_vm.specs.Bounds.{AreInRange, setup_of};
+ghost use Rattle.zk_vm.specs.Bounds.{setup_of};
 ghost use Rattle.zk_vm.specs.Parts.{asking_of, place_of, waiting_with};
 ghost use Rattle.zk_vm.specs.Step.{is_read};
 
@@ -116,7 +118,6 @@ impl Machine {
         instruction: Instr,
         undo: Undo,
     ) -> Result<Machine, AllocError>
-        requires range { AreInRange limits }
         requires read { is_read event ≡ true }
         requires steps { place.steps < limits.steps }
         requires reads { place.reads < 16777216 }
@@ -132,6 +133,35 @@ impl Machine {
             (states_in game.memory.file undo)) }
     {
         let cache = Cache::new(alloc, &game.memory)?;
+        Machine::with_cache(alloc, game, place, limits, event, instruction, undo, cache)
+    }
+
+    /// The same with instructions that were decoded before.
+    pub(crate) fn with_cache(
+        alloc: Global,
+        game: GameState,
+        place: Place,
+        limits: Limits,
+        event: Event,
+        instruction: Instr,
+        undo: Undo,
+        cache: Cache,
+    ) -> Result<Machine, AllocError>
+        requires read { is_read event ≡ true }
+        requires steps { place.steps < limits.steps }
+        requires reads { place.reads < 16777216 }
+        requires pc { place.pc < 2 ^ 20 }
+        requires near { instruction.next ≤ 2 ^ 20 }
+        requires inside { 1 ≤ instruction.next }
+        requires fetched { instr_at game.memory place.pc ≡ Ok instruction }
+        requires bounds { bounds_of game.frames ≡ (limits.frames, limits.words) }
+        requires setup { game.memory.setup ≡ setup_of limits }
+        requires most { undo.most ≡ limits.undo }
+        requires are_of { AreOf game.memory game.frames undo }
+        requires cached { IsCacheOf (fixed_parts game.memory) cache }
+        ensures { IfOk result (λ m. m ≡ waiting_with game place limits event instruction
+            (states_in game.memory.file undo)) }
+    {
         let codes = Codes::new(alloc)?;
         Ok(Machine {
             game,

@@ -6,15 +6,17 @@ ghost use Rattle.zk_code.specs.Reading.{instr_at};
 ghost use Rattle.zk_step.specs.Halves.{IsHalf, ShowsSome, rest_text, text_due};
 ghost use Rattle.zk_step.specs.Routing.{Signals, on_script};
 ghost use Rattle.zk_vm.specs.Answers.{undone};
+ghost use Rattle.zk_vm.specs.Changes.{changed_by, IsChanged};
 ghost use Rattle.zk_vm.specs.Answers.Answer.{Typed, GameKept, File};
 ghost use Rattle.zk_vm.specs.Halts.{CanAnswer, IsKeeping, IsLeftAs, IsLine, IsUndone, KeepsState, event_waited};
 ghost use Rattle.zk_vm.specs.Logged.{Ran};
 ghost use Rattle.zk_vm.specs.Pausing.{GoneBy, HasCome, IsCut, IsCutAt, IsMade, StandsHalf, WentOn, come_to};
 ghost use Rattle.zk_vm.specs.Pausing.{event_reached, prints_text, told_due};
 ghost use Rattle.zk_vm.specs.Plays.{AsksForLine};
-ghost use Rattle.zk_vm.specs.Sessions.{given, with_grid_forgotten, with_height, with_stop};
+ghost use Rattle.zk_vm.specs.Sessions.{given, with_grid_forgotten, with_height, with_seed, with_stop};
 ghost use Rattle.zk_vm.specs.Step.{is_read};
 
+use crate::machine::changing::Change;
 use crate::machine::step::keeps_state;
 use crate::machine::{Machine, stop_at};
 use crate::stop::Stop;
@@ -25,7 +27,8 @@ use std::marker::Model;
 use zk_code::decode::decode;
 use zk_code::instr::Instr;
 use zk_code::opcode::{Opcode, Printing};
-use zk_fast::places::Unnoted;
+use zk_fast::places::Places;
+use zk_mem::fault::Fault;
 use zk_state::refusal::Limit;
 use zk_step::instruction::{Progress, carry_out_part};
 use zk_step::output::codes::Codes;
@@ -222,7 +225,7 @@ impl Machine {
     }
 
     /// A machine that waits can be answered.
-    fn is_answerable(&self)
+    pub(crate) fn is_answerable(&self)
         ensures { CanAnswer self.now.state self.now.limits self.now.stopped self.now.waiting }
     {
         let _ = &self.waiting;
@@ -270,8 +273,13 @@ impl PausingMachine {
     }
 
     /// Makes the steps that show nothing and go on in the story, as many as there may be up to a bound, unless there is
-    /// a text to show.
-    fn go_ahead<S: Screen>(&mut self, screen: &S, bound: u32) -> Result<(), Halt>
+    /// a text to show. Where they stand is noted.
+    fn go_ahead<S: Screen, P: Places>(
+        &mut self,
+        screen: &S,
+        places: &mut P,
+        bound: u32,
+    ) -> Result<(), Halt>
         requires free { self.old.waiting ≡ None }
         requires runs { self.old.stopped ≡ None }
         requires silent { self.old.state.due ≡ [] }
@@ -290,7 +298,7 @@ impl PausingMachine {
             return Ok(());
         };
         self.machine.is_told();
-        match self.machine.go_ahead(&mut Unnoted, bound) {
+        match self.machine.go_ahead(places, bound) {
             Ok(()) => {}
             Err(halt) => {
                 self.machine.is_told();
@@ -302,8 +310,12 @@ impl PausingMachine {
     }
 
     /// One step, or a part of one. Says how many parts were shown; none where there is no memory for a state: then the
-    /// machine stands as before.
-    fn step<S: Screen>(&mut self, screen: &mut S) -> Result<Option<u32>, Halt>
+    /// machine stands as before. Where it stands is noted.
+    fn step<S: Screen, P: Places>(
+        &mut self,
+        screen: &mut S,
+        places: &mut P,
+    ) -> Result<Option<u32>, Halt>
         requires room { self.old.state.steps < self.old.limits.steps }
         requires free { self.old.waiting ≡ None }
         requires runs { self.old.stopped ≡ None }
@@ -322,6 +334,7 @@ impl PausingMachine {
         ensures limits { self.new.limits ≡ self.old.limits }
     {
         self.machine.is_told();
+        places.note(self.machine.pc);
         match self
             .machine
             .step_part(&mut self.half, &mut self.codes, &mut self.draft, screen)
@@ -344,8 +357,14 @@ impl PausingMachine {
 
     /// Steps up to an event or a stop, `Write` after the step or part of one at which the screen fails; or up to a
     /// pause, once so many steps and parts were made, and after the one at which the screen comes to ask for it, or
-    /// before one that keeps a state for which there is no memory. Says whether there is memory.
-    fn steps_in_parts<S: Screen>(&mut self, screen: &mut S, most: u32) -> Result<bool, Halt>
+    /// before one that keeps a state for which there is no memory. Says whether there is memory. Where they stand is
+    /// noted.
+    fn steps_in_parts<S: Screen, P: Places>(
+        &mut self,
+        screen: &mut S,
+        places: &mut P,
+        most: u32,
+    ) -> Result<bool, Halt>
         requires free { self.old.waiting ≡ None }
         requires runs { self.old.stopped ≡ None }
         requires silent { self.old.state.due ≡ [] }
@@ -362,14 +381,14 @@ impl PausingMachine {
         for _i in 0..most {
             let limit = self.machine.limits().steps as u64;
             let bound = (end - parts as u64).min(limit) as u32;
-            match self.go_ahead(screen, bound) {
+            match self.go_ahead(screen, places, bound) {
                 Ok(()) => {}
                 Err(halt) => return Err(halt),
             }
             if self.machine.steps_made() >= bound {
                 return self.pause();
             }
-            match self.step(screen) {
+            match self.step(screen, places) {
                 Ok(Some(shown)) => parts += shown,
                 Ok(None) => return Ok(false),
                 Err(halt) => return Err(halt),
@@ -401,8 +420,14 @@ impl PausingMachine {
     /// again. It pauses once so many instructions were carried out, of which a long text counts one for each part that
     /// was shown of it, and after one at which the screen comes to ask for it. It pauses too before a `save_undo` for
     /// whose state there is no memory. Nothing of an instruction that faults is shown. Where the screen fails, the stop
-    /// is `Write`, right after what it showed. The machine is not waiting, and the screen does not ask for a pause.
-    pub fn run_for<S: Screen>(&mut self, screen: &mut S, most: u32) -> Result<Reached, Stop>
+    /// is `Write`, right after what it showed. It notes where the instructions stand, of which no clause tells. The
+    /// machine is not waiting, and the screen does not ask for a pause.
+    pub fn run_for<S: Screen, P: Places>(
+        &mut self,
+        screen: &mut S,
+        places: &mut P,
+        most: u32,
+    ) -> Result<Reached, Stop>
         requires free { self.old.waiting ≡ None }
         requires room { S.full screen.old ≡ false }
         ensures logged { HasCome S.shows S.full S.failed screen.old screen.new (self.old.state.steps + most)
@@ -430,7 +455,7 @@ impl PausingMachine {
         if screen.is_full() {
             return Ok(Reached::Pause);
         }
-        match self.steps_in_parts(screen, most) {
+        match self.steps_in_parts(screen, places, most) {
             Ok(memory) => {
                 if memory {
                     return Ok(Reached::Pause);
@@ -536,6 +561,31 @@ impl PausingMachine {
         self.machine.is_told();
         self.machine.forget_grid();
         self.machine.is_told();
+    }
+
+    /// Begins the random numbers anew with a seed, as `Machine::reseed`. The machine waits.
+    pub fn reseed(&mut self, seed: u64)
+        requires { self.old.waiting ≡ None → ⊥ }
+        ensures { self.new ≡ with_seed self.old seed }
+    {
+        self.half = None;
+        self.machine.is_told();
+        self.machine.reseed(seed);
+        self.machine.is_told();
+    }
+
+    /// Changes memory, as `Machine::change`. The machine waits.
+    pub fn change(&mut self, change: Change) -> Result<(), Fault>
+        requires waits { self.old.waiting ≡ None → ⊥ }
+        requires above { self.old.state.game.memory.static_base ≤ self.old.state.pc }
+        ensures { MatchResult result (λ _. IsChanged change self.old self.new)
+            (λ e. (changed_by change self.old.state.game.memory ≡ Err e) × (self.new ≡ self.old)) }
+    {
+        self.half = None;
+        self.machine.is_told();
+        let changed = self.machine.change(change);
+        self.machine.is_told();
+        changed
     }
 
     /// Gives the upper window so many rows, as `Machine::split`, and says that it has; in the middle of an

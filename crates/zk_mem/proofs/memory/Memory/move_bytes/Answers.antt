@@ -14,4 +14,5 @@ invariant_of-self c =
     let dynamic : to + count ≤ s.header.static_base = rw (← c.self.view_is) at c.requires.dynamic in
     let amount : from + count - from ≡ count = omega arith in
     let copied = c.copy_within.ensures.items ∙ ap (λ (n : ℕ). paste bytes to (drop from bytes) n) amount in
-    rw copied (whole_moved s.header s.readable bytes s.file.items from to count c.self.invariant readable dynamic)
+    let file = s.file.items.value.items in
+    rw copied (whole_moved s.header s.readable bytes file from to count c.self.invariant readable dynamic)

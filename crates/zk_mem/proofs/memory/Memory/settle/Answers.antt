@@ -9,5 +9,5 @@ invariant_of-self c =
     let s = c.self.inside in
     let set : c.set_fields.new.bytes.items ≡ with_fields c.version-version.result s.setup
     (with_flags c.args.flags s.bytes.items) = search rules in
-    whole_settled s.header s.readable s.bytes.items s.file.items c.set_fields.new.bytes.items
+    whole_settled s.header s.readable s.bytes.items s.file.items.value.items c.set_fields.new.bytes.items
     c.version-version.result s.setup c.args.flags c.self.invariant set

@@ -7,7 +7,7 @@ use Rattle.zk_mem.proofs.memory.Memory.start.Goals as goal
 
 pub invariant_of-result : goal.invariant_of-result
 invariant_of-result c =
-    let file = c.story.inside.bytes.items in
+    let file = c.story.inside.bytes.items.value.items in
     let header : c.header_at_front-header.result ≡ header_of file = search rules in
     let bytes : c.set_fields.new.bytes.items ≡ with_fields c.header_at_front-header.result.version
     c.args.setup file = search rules in
