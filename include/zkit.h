@@ -16,10 +16,11 @@
  * The program has these duties, which no call tests:
  *
  * - Use a game from one thread at a time. Other threads may use other games meanwhile.
- * - Pass only a game that zkit_open or zkit_open_snapshot returned and zkit_close has not closed. Pass no other null
- *   pointer, unless the function allows it or the length after it is 0. A pointer points to as many bytes as that
- *   length says, less than 2^63. No two arguments of a call overlap. A struct has at least as many bytes as its field
- *   `size` says.
+ * - Pass only a game that zkit_open, zkit_open_snapshot, zkit_clone, zkit_story_game or zkit_story_resume returned
+ *   and zkit_close has not closed, and only an opened story that zkit_story_close has not closed. Pass no other null
+ *   pointer, unless the function allows it or the length after it is 0. A pointer points to as many bytes or
+ *   words as that length says, less than 2^63 bytes. No two arguments of a call overlap. A struct has at least as many
+ *   bytes as its field `size` says.
  * - Call no function from a signal handler, or in the forked child of a process with threads.
  *
  * The library gets its memory from the three functions of zkit_heap.h; the library has them already, over malloc.
@@ -86,14 +87,15 @@ typedef struct zkit_options {
     uint32_t keys;   /* if not 0, zkit_character takes keys too, such as the cursor keys: ZKIT_KEY_UP .. */
     uint32_t columns; /* how many characters fit on a line of the screen: 20 to 255. The story is told, and the rows of
                          the upper window have this width */
+    uint32_t coverage; /* if not 0, the game notes which instructions are carried out, for zkit_coverage */
 } zkit_options;
 
 /* Sets each field within `options->size` to the value that zkit_open uses without options: seed 1, the limits above,
- * no upper window, no styles, no keys and 80 columns. If the size does not include all fields up to `upper`, sets
- * none. */
+ * no upper window, no styles, no keys, 80 columns and no coverage. If the size does not include all fields up to
+ * `upper`, sets none. */
 void zkit_defaults(zkit_options *options);
 
-/* Why zkit_open and zkit_open_snapshot open nothing. */
+/* Why zkit_open, zkit_open_snapshot, zkit_story_open, zkit_story_game and zkit_story_resume open nothing. */
 enum {
     ZKIT_OPENED = 0,
     ZKIT_TOO_SHORT = 1,         /* shorter than a header, 64 bytes */
@@ -122,7 +124,7 @@ enum {
     ZKIT_AWAITS_MEMORY = 7      /* memory: there is none for text, or for an undo state. Turn again */
 };
 
-/* What the functions that answer a story return, and zkit_story_in. */
+/* What the functions that answer a story return, those that look into a game, and zkit_story_in. */
 enum {
     ZKIT_DONE = 0,
     ZKIT_NOT_AWAITED = 1,       /* the story awaits something else, or nothing */
@@ -134,7 +136,10 @@ enum {
     ZKIT_LISTING_TOO_MANY_WORDS = 7, /* the texts of the listing have more words than ZKIT_LISTING_WORDS */
     ZKIT_NOT_A_BLORB = 8,       /* the file is no Blorb file */
     ZKIT_NO_STORY = 9,          /* the Blorb file has no story for the Z-machine, or is cut off */
-    ZKIT_NOT_A_KEY = 10         /* the key ends no line of this story */
+    ZKIT_NOT_A_KEY = 10,        /* the key ends no line of this story */
+    ZKIT_NOT_THERE = 11,        /* there is no such open routine, object or property */
+    ZKIT_NOT_CHANGED = 12       /* the story could not make this change, or the instruction that awaits the answer lies
+                                   in dynamic memory */
 };
 
 /* What zkit_status returns: why the story has stopped. */
@@ -210,6 +215,32 @@ uint32_t zkit_story_in(const uint8_t *file, size_t file_length, uint8_t *buffer,
 /* Frees all memory of a game. With null it does nothing. */
 void zkit_close(zkit *game);
 
+/* ---- games of one story
+ *
+ * A program that plays a story many times opens it once. Its games then share the story's file, which never changes.
+ * Each of them is a game of its own, as if the others were not there: other threads may use it, and it stays when the
+ * opened story is closed. */
+
+/* An opened story. */
+typedef struct zkit_shared zkit_shared;
+
+/* Opens a story, of which the library keeps a copy. `reason` gets ZKIT_OPENED, or why it is not opened, as for
+ * zkit_open; may be null. Returns the opened story, or null. */
+zkit_shared *zkit_story_open(const uint8_t *story, size_t length, uint32_t *reason);
+
+/* Opens a game at the start of an opened story: like zkit_open. Any number of threads may open games of it at once;
+ * each waits while another one opens its game. */
+zkit *zkit_story_game(zkit_shared *story, const zkit_options *options, uint32_t *reason);
+
+/* Opens a game that goes on from a snapshot of an opened story: like zkit_open_snapshot, and for threads like
+ * zkit_story_game. */
+zkit *zkit_story_resume(zkit_shared *story, const uint8_t *snapshot, size_t snapshot_length,
+                        const zkit_options *options, uint32_t *reason);
+
+/* Frees what an opened story has for itself, when no thread opens a game of it. The file goes with its last game. With
+ * null it does nothing. */
+void zkit_story_close(zkit_shared *story);
+
 /* ---- turns and text */
 
 /* Runs the story until it awaits something or stops, and returns which. The library collects the text for zkit_text and
@@ -230,6 +261,10 @@ uint32_t zkit_turn(zkit *game);
  * on as if nothing had happened. Here each thousand Z-characters of a long text count as one instruction, and so do
  * table rows with a thousand characters, or a single longer row: the turn may end in their middle. */
 uint32_t zkit_turn_for(zkit *game, uint32_t steps);
+
+/* Carries out one instruction: like zkit_turn_for with 1, after zkit_list_instruction for the instruction that comes
+ * next. So zkit_listing has its line, unless that was refused. */
+uint32_t zkit_step(zkit *game);
 
 /* Moves the next bytes of the screen's text into a buffer, and returns how many: at most length, and 0 if no text is
  * left or length is 0. There may be more text even after fewer bytes than length: call it until it returns 0. The text
@@ -395,6 +430,146 @@ size_t zkit_longest_snapshot(const zkit *game, size_t undo_bytes);
 zkit *zkit_open_snapshot(const uint8_t *story, size_t length, const uint8_t *snapshot, size_t snapshot_length,
                          const zkit_options *options, uint32_t *reason);
 
+/* ---- clones */
+
+/* Opens a second game that goes on from where a game awaits a line or a character: with its memory, routines, random
+ * numbers, streams, windows and limits, the same states for zkit_undo and the story's own `restore_undo`, and the same
+ * options. From then on each is a game of its own, as if the other were not there: other threads may use it, and either
+ * may be closed first. The two share the story's file, so a clone costs less than another zkit_open. Text that was not
+ * taken stays with the first game.
+ *
+ * reason   gets ZKIT_DONE, ZKIT_NOT_AWAITED or ZKIT_NO_MEMORY; may be null.
+ *
+ * Returns the second game, or null. */
+zkit *zkit_clone(const zkit *game, uint32_t *reason);
+
+/* Begins the random numbers anew with a seed, as the option `seed` does, if the story awaits a line or a character. So
+ * clones can throw other dice. If the story itself has asked for predictable numbers, these go on as they are.
+ *
+ * ZKIT_DONE or ZKIT_NOT_AWAITED. */
+uint32_t zkit_reseed(zkit *game, uint64_t seed);
+
+/* ---- looking into a game
+ *
+ * These calls change nothing, and may be used at any time, also while the last turn ended in the middle of an
+ * instruction's text: then they show the game before that instruction. Addresses are byte addresses. The sections are
+ * those of the Z-Machine Standards Document 1.1. */
+
+/* How many bytes of the screen's text, and of the transcript's, wait to be taken. */
+size_t zkit_waiting_text(const zkit *game);
+size_t zkit_waiting_transcript(const zkit *game);
+
+/* Puts the marks of the addresses from one on at the front of a buffer, or as many as fit; returns how many: one byte
+ * for each byte of the story, 1 where an instruction begins that this game has carried out since it was opened, else 0.
+ * A clone begins without marks. Without the option `coverage` there are none. */
+size_t zkit_coverage(const zkit *game, uint32_t address, uint8_t *buffer, size_t length);
+
+/* Where a game stands. */
+typedef struct zkit_place {
+    size_t size;           /* sizeof (zkit_place) */
+    uint32_t address;      /* of the instruction that waits, or comes next, or has stopped the story */
+    uint32_t routines;     /* how many routines that were called are open */
+    uint32_t words;        /* how many 16-bit words all open routines hold */
+    uint32_t states;       /* how many undo states there are to go back to */
+    uint32_t steps;        /* how many instructions were carried out since the last read was answered */
+    uint32_t reads;        /* how many reads were answered */
+    uint64_t instructions; /* how many instructions the turns of this game have carried out, without those that await an
+                              answer and the one that ends the story; a clone begins with 0 */
+} zkit_place;
+
+/* Describes where a game stands. If the size does not include all fields up to `instructions`, sets none. */
+void zkit_place_of(const zkit *game, zkit_place *place);
+
+/* An open routine (section 6.1). */
+typedef struct zkit_routine {
+    size_t size;        /* sizeof (zkit_routine) */
+    uint32_t address;   /* of the routine, where the count of its local variables stands; 0 if it is not known */
+    uint32_t call;      /* of the call that began it; 0 if it is not known */
+    uint32_t goes_on;   /* where its caller goes on */
+    uint32_t locals;    /* how many local variables it has: 0 to 15 */
+    uint32_t words;     /* how many words stand on its evaluation stack */
+    uint32_t arguments; /* how many arguments it was given: the first local variables, as they were at the call */
+} zkit_routine;
+
+/* Describes the open routine of a number. The one that the story begins in has number 0, and the newest has the number
+ * `routines` of zkit_place. Number 0 has no address and no call. A saved game and a snapshot do not say which routines
+ * are open: their addresses are not known then, and mostly no calls either. If the size does not include all fields up
+ * to `arguments`, sets none.
+ *
+ * ZKIT_DONE or ZKIT_NOT_THERE. */
+uint32_t zkit_routine_of(const zkit *game, uint32_t number, zkit_routine *routine);
+
+/* Puts the local variables of the open routine of a number, the first one first, at the front of a buffer of length
+ * words, or as many as fit; returns how many. */
+size_t zkit_locals(const zkit *game, uint32_t number, uint16_t *buffer, size_t length);
+
+/* The same for the words of its evaluation stack, the oldest first. */
+size_t zkit_stack(const zkit *game, uint32_t number, uint16_t *buffer, size_t length);
+
+/* Puts the bytes of memory from an address on, as they are now, at the front of a buffer, or as many as fit; returns
+ * how many. Past the end of the story there are none. The global variable n of 16 to 255 is the word, high byte first,
+ * at the address in the word at 12, plus 2 * (n - 16). */
+size_t zkit_memory(const zkit *game, uint32_t address, uint8_t *buffer, size_t length);
+
+/* A hash of so many bytes of memory from an address on, as they are now: FNV-1a in 64 bits. What the story can change
+ * lies below the address in the word at 14: dynamic memory. Two games of a story with the same hash of that are almost
+ * surely in the same state, apart from their open routines and random numbers. */
+uint64_t zkit_hash(const zkit *game, uint32_t address, uint32_t count);
+
+/* How many objects the story has: they are counted up to the first property table. */
+uint32_t zkit_objects(const zkit *game);
+
+/* An object as it stands (section 12.3). */
+typedef struct zkit_object {
+    size_t size;           /* sizeof (zkit_object) */
+    uint32_t entry;        /* the address of its entry in the object table */
+    uint32_t parent;       /* the number of its parent, or 0 */
+    uint32_t sibling;      /* of its next sibling, or 0 */
+    uint32_t child;        /* of its first child, or 0 */
+    uint32_t properties;   /* the address of its property table */
+    uint8_t attributes[8]; /* 32 in version 3 and 48 in others, and zeros: attribute 0 is bit 7 of the first byte */
+} zkit_object;
+
+/* Describes the object of a number, from 1 on. If the size does not include all fields up to `attributes`, sets none.
+ *
+ * ZKIT_DONE; ZKIT_NOT_THERE: its entry does not lie in data. */
+uint32_t zkit_object_of(const zkit *game, uint32_t object, zkit_object *figures);
+
+/* Puts the short name of an object at the front of a buffer, like zkit_status_name. It is empty if it can't be read. */
+size_t zkit_object_name(const zkit *game, uint32_t object, uint8_t *buffer, size_t length);
+
+/* A property of an object (section 12.4). */
+typedef struct zkit_property {
+    size_t size;      /* sizeof (zkit_property) */
+    uint32_t next;    /* the number of the next property in the object's list, or 0 */
+    uint32_t address; /* of its data */
+    uint32_t length;  /* how many bytes its data has */
+} zkit_property;
+
+/* Describes a property of an object. With the number 0, sets `next` to the first property of its list, and the other
+ * fields to 0. If the size does not include all fields up to `length`, sets none.
+ *
+ * ZKIT_DONE; ZKIT_NOT_THERE: there is no such object, or it has no such property, or its list can't be read. */
+uint32_t zkit_property_of(const zkit *game, uint32_t object, uint32_t number, zkit_property *property);
+
+/* ---- changing a game
+ *
+ * These calls are for debugging and for tests: they change memory as an instruction of the story could, while the story
+ * awaits a line or a character. Few stories expect that. From then on a game is no play of the story any more: the same
+ * seed and the same lines need not give it again. */
+
+/* Gives the word at a byte address of dynamic memory a value, 0 to 65,535, as `storew` does.
+ *
+ * ZKIT_DONE; ZKIT_NOT_AWAITED: the story awaits nothing of the kind; ZKIT_NOT_CHANGED: not both bytes lie in dynamic
+ * memory, or the value is no word. */
+uint32_t zkit_set_word(zkit *game, uint32_t address, uint32_t value);
+
+/* Puts an object into another one, as its first child, as `insert_obj` does; with the parent 0 takes it out of its
+ * parent, as `remove_obj` does. An object that goes into itself, or into one inside of it, makes a circle.
+ *
+ * ZKIT_DONE; ZKIT_NOT_AWAITED; ZKIT_NOT_CHANGED: the story could not do it, as there is no such object. */
+uint32_t zkit_move_object(zkit *game, uint32_t object, uint32_t parent);
+
 /* ---- the screen's upper part */
 
 /* The upper window: a grid of characters above the text, as wide as the option `columns` says. */
@@ -506,6 +681,10 @@ uint32_t zkit_list(zkit *game, uint32_t listing);
 
 /* The same for a listing of at most this many bytes. Meanwhile the library keeps at most one byte more than that. */
 uint32_t zkit_list_within(zkit *game, uint32_t listing, size_t most);
+
+/* Lists the instruction at a byte address of memory as it is now, for zkit_listing, as zkit_list lists the code. What
+ * stands there need not be an instruction. The address of the one that comes next is in zkit_place. */
+uint32_t zkit_list_instruction(zkit *game, uint32_t address);
 
 /* Moves the next bytes of the listing into a buffer, like zkit_text. */
 size_t zkit_listing(zkit *game, uint8_t *buffer, size_t length);

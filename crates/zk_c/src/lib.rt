@@ -2,7 +2,7 @@
 // `include/zkit.h`.
 #![tactic(auto)]
 
-ghost use Rattle.std.specs.Prelude.{◌≡◌, ◌∷◌, ◌==◌, [], List, ℕ, None, Some, min, not, unwrap_or};
+ghost use Rattle.std.specs.Prelude.{◌≡◌, ◌∷◌, ◌==◌, [], List, ℕ, None, Some, drop, length, min, not, unwrap_or};
 ghost use Rattle.zk_blorb.specs.Blorb.{story_of};
 ghost use Rattle.zk_blorb.specs.Looks.{looks_of, looks_text};
 ghost use Rattle.zk_mem.specs.Header.{header_of};
@@ -12,14 +12,20 @@ ghost use Rattle.zk_vm.specs.Answers.Answer.{Typed, GameKept, File};
 ghost use Rattle.zk_vm.specs.Plays.{codes_read};
 ghost use Rattle.zk_host.specs.Texts.{IsPutInFront, IsTaken};
 ghost use Rattle.zk_host.specs.Calls.{IsStatus, awaited, character_read, character_refused, line_refused};
-ghost use Rattle.zk_host.specs.Calls.{done_unless, longest_snapshot, restore_refused, save_refused, split_refused};
+ghost use Rattle.zk_host.specs.Calls.{done_unless, longest_snapshot, marks_from, restore_refused, save_refused};
+ghost use Rattle.zk_host.specs.Calls.{split_refused};
+ghost use Rattle.zk_host.specs.Changing.{move_of, word_of};
 ghost use Rattle.zk_host.specs.Drawing.{longest_line, row_bytes, row_number, row_styles, window_of};
 ghost use Rattle.zk_host.specs.Files.{IsStoryPut};
 ghost use Rattle.zk_host.specs.Listings.{listing_numbered};
+ghost use Rattle.zk_host.specs.Looking.{AreObjects, IsFrameTold, IsTold, frame_numbered, hash_at, locals_of};
+ghost use Rattle.zk_host.specs.Looking.{object_numbered, place_figures, property_numbered, words_of};
+ghost use Rattle.zk_host.specs.Names.{IsObjectName};
 ghost use Rattle.zk_host.specs.Marks.{run_of, run_told, taken_from, with_styles};
 ghost use Rattle.zk_host.specs.Numbers.{address_number, answer_number, reason_number, status_number};
 ghost use Rattle.zk_host.specs.Exports.{IsAnswered, IsImaged, IsListed, IsOpened, IsOpenedAgain, IsSnapshotPut, IsTurn};
-ghost use Rattle.zk_host.specs.Exports.{IsUndo, OnPlay, facts_of, limits_said, view_if};
+ghost use Rattle.zk_host.specs.Exports.{IsChanging, IsCloned, IsCovering, IsHeld, IsListedAt, IsOpenedBeside};
+ghost use Rattle.zk_host.specs.Exports.{IsResumedBeside, IsSeeded, IsUndo, OnPlay, facts_of, limits_said, view_if};
 
 use std::alloc::Global;
 use zk_host::drawing::{StatusFigures, WindowFigures};
@@ -27,18 +33,23 @@ use zk_host::facts::{Facts, facts_of};
 use zk_host::files::{put_story, words_on_file};
 use zk_host::handle::Zkit;
 use zk_host::listing::listing_of;
+use zk_host::looking::{FrameFigures, ObjectFigures, PlaceFigures, PropertyFigures};
 use zk_host::marks::Run;
 use zk_host::numbers::{
     address_number, answer_number, reason_number, refused_number, snapshot_number, status_number,
     turn_number,
 };
 use zk_host::options::{limits_said, view_if};
-use zk_host::play::Play;
+use zk_host::play::changing::{move_of, word_of};
+use zk_host::play::{Play, SnapshotRefusal};
 use zk_host::reasons::{words, words_on_open};
 use zk_host::text::{put_file, put_front};
 
 /// What is not awaited: a handle that is not open awaits nothing.
 const NOT_AWAITED: u32 = 1;
+
+/// There is no such open routine, object or property.
+const NOT_THERE: u32 = 11;
 
 /// A limit lies out of its range.
 const BAD_LIMIT: u32 = 7;
@@ -53,6 +64,19 @@ macro_rules! on_play {
         $game.put($alloc, $play);
         answer
     }};
+}
+
+/// Puts an opened play into a handle, in place of one that it may have. Answers 0, or why there is none.
+fn hold(alloc: Global, game: &mut Zkit, opened: Result<Box<Play>, SnapshotRefusal>) -> u32
+    ensures { IsHeld game.old.play game.new.play opened result }
+{
+    match opened {
+        Ok(play) => {
+            game.put(alloc, play);
+            0
+        }
+        Err(refusal) => snapshot_number(refusal),
+    }
 }
 
 /// Opens a story at its start, in place of one that the handle may have: `Machine::start` of `zk_vm`. Answers 0, or why
@@ -253,13 +277,11 @@ pub extern "C" fn zk_open_snapshot(
 {
     match limits_said(frames, words, undo, steps, 80, 0) {
         None => BAD_LIMIT,
-        Some(most) => match Play::open_snapshot(alloc, story, snapshot, most) {
-            Ok(play) => {
-                game.put(alloc, play);
-                0
-            }
-            Err(refusal) => snapshot_number(refusal),
-        },
+        Some(most) => hold(
+            alloc,
+            game,
+            Play::open_snapshot(alloc, story, snapshot, most),
+        ),
     }
 }
 
@@ -448,6 +470,294 @@ pub extern "C" fn zk_status_name(alloc: Global, game: &mut Zkit, buffer: &mut [u
     on_play!(alloc, game, 0, play => play.take_name(buffer))
 }
 
+/// Opens a second play that goes on from where a play waits for a line or a character, in place of one that the second
+/// handle may have: `try_clone` of `zk_vm`. Answers 0, 1 where nothing of the kind is awaited, or 4 where there is no
+/// memory; then the second handle is as it was.
+#[unsafe(no_mangle)]
+pub extern "C" fn zk_clone(alloc: Global, game: &mut Zkit, clone: &mut Zkit) -> u32
+    ensures { OnPlay game.old.play game.new.play
+        (λ old new. IsCloned old new clone.old.play clone.new.play result)
+        ((result ≡ 1) × (clone.new.play ≡ clone.old.play)) }
+{
+    match on_play!(alloc, game, NOT_AWAITED, play => play.try_clone(alloc)) {
+        Ok(play) => {
+            clone.put(alloc, play);
+            0
+        }
+        Err(refusal) => refused_number(refusal),
+    }
+}
+
+/// Opens a second play, at the start of the story of a play, in place of one that the second handle may have. The two
+/// share the story's file. Answers 0, 1 where the first handle is not open, 6 where there is no memory, or 7 where a
+/// limit is out of its range; then the second handle is as it was.
+#[unsafe(no_mangle)]
+pub extern "C" fn zk_open_beside(
+    alloc: Global,
+    game: &mut Zkit,
+    other: &mut Zkit,
+    seed: u64,
+    frames: u32,
+    words: u32,
+    undo: u32,
+    steps: u32,
+    upper: u32,
+    columns: u32,
+    styles: u32,
+) -> u32
+    ensures { OnPlay game.old.play game.new.play
+        (λ old new. IsOpenedBeside old new other.old.play other.new.play seed
+        (limits_said frames words undo steps columns styles) (view_if upper) result)
+        ((result ≡ 1) × (other.new.play ≡ other.old.play)) }
+{
+    let limits = limits_said(frames, words, undo, steps, columns, styles);
+    let opened = on_play!(alloc, game, NOT_AWAITED,
+        play => play.open_beside(alloc, seed, limits, view_if(upper)));
+    hold(alloc, other, opened)
+}
+
+/// Opens a second play that goes on from a snapshot of the story of a play, in place of one that the second handle may
+/// have, where the snapshot's limits are at most these: `open_snapshot` of `zk_snapshot`. The two share the story's
+/// file. Answers as `zk_open_snapshot` does, or 1 where the first handle is not open; where it is not 0, the second
+/// handle is as it was.
+#[unsafe(no_mangle)]
+pub extern "C" fn zk_open_snapshot_beside(
+    alloc: Global,
+    game: &mut Zkit,
+    other: &mut Zkit,
+    snapshot: &[u8],
+    frames: u32,
+    words: u32,
+    undo: u32,
+    steps: u32,
+) -> u32
+    ensures { OnPlay game.old.play game.new.play
+        (λ old new. IsResumedBeside old new other.old.play other.new.play snapshot.now
+        (limits_said frames words undo steps 80 0) result)
+        ((result ≡ 1) × (other.new.play ≡ other.old.play)) }
+{
+    let most = limits_said(frames, words, undo, steps, 80, 0);
+    let opened = on_play!(alloc, game, NOT_AWAITED,
+        play => play.open_snapshot_beside(alloc, snapshot, most));
+    hold(alloc, other, opened)
+}
+
+/// Begins the random numbers anew with a seed, where a line or a character is awaited: `reseed` of `zk_vm`. Answers 0,
+/// or 1 where nothing of the kind is.
+#[unsafe(no_mangle)]
+pub extern "C" fn zk_reseed(alloc: Global, game: &mut Zkit, seed: u64) -> u32
+    ensures { OnPlay game.old.play game.new.play (λ old new. IsSeeded seed old new result) (result ≡ 1) }
+{
+    answer_number(on_play!(alloc, game, NOT_AWAITED, play => play.reseed(seed)))
+}
+
+/// Gives the word at a byte address of dynamic memory a value, where a line or a character is awaited: `change` of
+/// `zk_vm`. Answers 0, 1 where nothing of the kind is awaited, or 12 where the story could not do it, or where the
+/// instruction that waits lies in dynamic memory; then nothing changes.
+#[unsafe(no_mangle)]
+pub extern "C" fn zk_set_word(alloc: Global, game: &mut Zkit, address: u32, value: u32) -> u32
+    ensures { OnPlay game.old.play game.new.play
+        (λ old new. IsChanging (word_of address value) old new result) (result ≡ 1) }
+{
+    answer_number(on_play!(alloc, game, NOT_AWAITED, play => play.change(word_of(address, value))))
+}
+
+/// Puts an object into another, as its first child, or for 0 into none, in the same way.
+#[unsafe(no_mangle)]
+pub extern "C" fn zk_move_object(alloc: Global, game: &mut Zkit, object: u32, parent: u32) -> u32
+    ensures { OnPlay game.old.play game.new.play
+        (λ old new. IsChanging (move_of object parent) old new result) (result ≡ 1) }
+{
+    answer_number(on_play!(alloc, game, NOT_AWAITED, play => play.change(move_of(object, parent))))
+}
+
+/// Notes from now on which instructions are carried out. Answers 0, 1 where the handle is not open, or 4 where there is
+/// no memory.
+#[unsafe(no_mangle)]
+pub extern "C" fn zk_keep_coverage(alloc: Global, game: &mut Zkit) -> u32
+    ensures { OnPlay game.old.play game.new.play (λ old new. IsCovering old new result) (result ≡ 1) }
+{
+    answer_number(on_play!(alloc, game, NOT_AWAITED, play => play.keep_coverage(alloc)))
+}
+
+/// Puts the marks of the addresses from one on at the front of a buffer, as many as there is room for: a byte each, 1
+/// where an instruction begins that was carried out. Answers how many.
+#[unsafe(no_mangle)]
+pub extern "C" fn zk_coverage(
+    alloc: Global,
+    game: &mut Zkit,
+    address: u32,
+    buffer: &mut [u8],
+) -> usize
+    ensures { OnPlay game.old.play game.new.play (λ old new. (new ≡ old) × IsPutInFront
+        (marks_from old.cover address) buffer.old buffer.new result)
+        ((result ≡ 0) × (buffer.new ≡ buffer.old)) }
+{
+    on_play!(alloc, game, 0, play => play.coverage(address, buffer))
+}
+
+/// How many bytes of the screen's text wait to be taken.
+#[unsafe(no_mangle)]
+pub extern "C" fn zk_waiting_text(alloc: Global, game: &mut Zkit) -> usize
+    ensures { OnPlay game.old.play game.new.play
+        (λ old new. (new ≡ old) × (result ≡ length old.text.screen.bytes)) (result ≡ 0) }
+{
+    on_play!(alloc, game, 0, play => play.waiting_text())
+}
+
+/// How many bytes of the transcript's text wait to be taken.
+#[unsafe(no_mangle)]
+pub extern "C" fn zk_waiting_transcript(alloc: Global, game: &mut Zkit) -> usize
+    ensures { OnPlay game.old.play game.new.play
+        (λ old new. (new ≡ old) × (result ≡ length old.text.script.bytes)) (result ≡ 0) }
+{
+    on_play!(alloc, game, 0, play => play.waiting_script())
+}
+
+/// Tells where the play stands.
+#[unsafe(no_mangle)]
+pub extern "C" fn zk_place(alloc: Global, game: &mut Zkit, place: &mut PlaceFigures)
+    ensures { OnPlay game.old.play game.new.play
+        (λ old new. (new ≡ old) × (place.new ≡ place_figures old.machine)) (place.new ≡ place.old) }
+{
+    *place = on_play!(alloc, game, (), play => play.place());
+}
+
+/// Tells what is known of the open routine of a number: that which the story begins in has 0, and the newest as many as
+/// were called. Answers 0, or 11 where there is none; then nothing is told.
+#[unsafe(no_mangle)]
+pub extern "C" fn zk_frame(
+    alloc: Global,
+    game: &mut Zkit,
+    number: u32,
+    frame: &mut FrameFigures,
+) -> u32
+    ensures { OnPlay game.old.play game.new.play
+        (λ old new. (new ≡ old) × IsFrameTold old.machine number frame.old frame.new result)
+        ((result ≡ 1) × (frame.new ≡ frame.old)) }
+{
+    match on_play!(alloc, game, NOT_AWAITED, play => play.frame(number)) {
+        Some(told) => {
+            *frame = told;
+            0
+        }
+        None => NOT_THERE,
+    }
+}
+
+/// Puts the local variables of the open routine of a number at the front of a buffer, as many as there is room for.
+/// Answers how many.
+#[unsafe(no_mangle)]
+pub extern "C" fn zk_locals(
+    alloc: Global,
+    game: &mut Zkit,
+    number: u32,
+    buffer: &mut [u16],
+) -> usize
+    ensures { OnPlay game.old.play game.new.play (λ old new. (new ≡ old) × IsPutInFront
+        (locals_of (frame_numbered old.machine number)) buffer.old buffer.new result)
+        ((result ≡ 0) × (buffer.new ≡ buffer.old)) }
+{
+    on_play!(alloc, game, 0, play => play.locals(number, buffer))
+}
+
+/// Puts the words of its evaluation stack there, the newest last.
+#[unsafe(no_mangle)]
+pub extern "C" fn zk_stack(alloc: Global, game: &mut Zkit, number: u32, buffer: &mut [u16]) -> usize
+    ensures { OnPlay game.old.play game.new.play (λ old new. (new ≡ old) × IsPutInFront
+        (words_of (frame_numbered old.machine number)) buffer.old buffer.new result)
+        ((result ≡ 0) × (buffer.new ≡ buffer.old)) }
+{
+    on_play!(alloc, game, 0, play => play.stack(number, buffer))
+}
+
+/// Puts the bytes of memory from an address on, as they are now, at the front of a buffer, as many as there is room
+/// for. Answers how many.
+#[unsafe(no_mangle)]
+pub extern "C" fn zk_memory(
+    alloc: Global,
+    game: &mut Zkit,
+    address: u32,
+    buffer: &mut [u8],
+) -> usize
+    ensures { OnPlay game.old.play game.new.play (λ old new. (new ≡ old) × IsPutInFront
+        (drop address old.machine.state.game.memory.bytes) buffer.old buffer.new result)
+        ((result ≡ 0) × (buffer.new ≡ buffer.old)) }
+{
+    on_play!(alloc, game, 0, play => play.memory(address, buffer))
+}
+
+/// The hash of so many bytes of memory from an address on, as they are now.
+#[unsafe(no_mangle)]
+pub extern "C" fn zk_hash(alloc: Global, game: &mut Zkit, address: u32, count: u32) -> u64
+    ensures { OnPlay game.old.play game.new.play (λ old new. (new ≡ old)
+        × (result ≡ hash_at old.machine.state.game.memory address count)) (result ≡ 0) }
+{
+    on_play!(alloc, game, 0, play => play.hash(address, count))
+}
+
+/// How many objects the story has: `count_objects` of `zk_inspect`, of memory as it is now.
+#[unsafe(no_mangle)]
+pub extern "C" fn zk_objects(alloc: Global, game: &mut Zkit) -> u32
+    ensures { OnPlay game.old.play game.new.play (λ old new. (new ≡ old) × AreObjects old.machine result)
+        (result ≡ 0) }
+{
+    on_play!(alloc, game, 0, play => play.objects()) as u32
+}
+
+/// Tells how an object stands. Answers 0, or 11 where it does not lie in data; then nothing is told.
+#[unsafe(no_mangle)]
+pub extern "C" fn zk_object(
+    alloc: Global,
+    game: &mut Zkit,
+    object: u32,
+    figures: &mut ObjectFigures,
+) -> u32
+    ensures { OnPlay game.old.play game.new.play (λ old new. (new ≡ old)
+        × IsTold (object_numbered old.machine.state.game.memory object) figures.old figures.new result)
+        ((result ≡ 1) × (figures.new ≡ figures.old)) }
+{
+    match on_play!(alloc, game, NOT_AWAITED, play => play.object(object)) {
+        Ok(told) => {
+            *figures = told;
+            0
+        }
+        Err(_) => NOT_THERE,
+    }
+}
+
+/// Tells a property of an object. Answers 0, or 11 where there is none; then nothing is told.
+#[unsafe(no_mangle)]
+pub extern "C" fn zk_property(
+    alloc: Global,
+    game: &mut Zkit,
+    object: u32,
+    number: u32,
+    figures: &mut PropertyFigures,
+) -> u32
+    ensures { OnPlay game.old.play game.new.play (λ old new. (new ≡ old)
+        × IsTold (property_numbered old.machine.state.game.memory object number) figures.old figures.new result)
+        ((result ≡ 1) × (figures.new ≡ figures.old)) }
+{
+    match on_play!(alloc, game, NOT_AWAITED, play => play.property(object, number)) {
+        Ok(told) => {
+            *figures = told;
+            0
+        }
+        Err(_) => NOT_THERE,
+    }
+}
+
+/// Collects the short name of an object, which `zk_status_name` takes.
+#[unsafe(no_mangle)]
+pub extern "C" fn zk_name_object(alloc: Global, game: &mut Zkit, object: u32)
+    ensures { OnPlay game.old.play game.new.play (λ old new.
+        IsObjectName old.machine.state.game.memory object new.name × (new ≡ record old { name = new.name }))
+        (Unit {0}) }
+{
+    on_play!(alloc, game, (), play => play.name_object(alloc, object))
+}
+
 /// Tells version, release and checksum that a story's file says, and puts its serial number at the front of a buffer.
 /// Answers how many bytes.
 #[unsafe(no_mangle)]
@@ -522,6 +832,24 @@ pub extern "C" fn zk_list(alloc: Global, game: &mut Zkit, listing: u32, most: us
     let listed = play.list(alloc, listing, most);
     game.put(alloc, play);
     answer_number(listed)
+}
+
+/// Lists the instruction at a byte address of memory as it is now, in at most so many bytes, for `zk_listing`. Answers
+/// 0, 1 where the handle is not open, 4 where there is no memory, 6 where it has more bytes, or 7 where its text has
+/// too many words. Where it is refused, nothing is left of an earlier listing.
+#[unsafe(no_mangle)]
+pub extern "C" fn zk_list_instruction(
+    alloc: Global,
+    game: &mut Zkit,
+    address: u32,
+    most: usize,
+) -> u32
+    ensures { OnPlay game.old.play game.new.play
+        (λ old new. IsListedAt address most old new result) (result ≡ 1) }
+{
+    answer_number(
+        on_play!(alloc, game, NOT_AWAITED, play => play.list_instruction(alloc, address, most)),
+    )
 }
 
 /// Takes text of the listing, UTF-8, from the front into a buffer. Answers how many bytes: 0 where none are left.

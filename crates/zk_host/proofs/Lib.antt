@@ -6,5 +6,7 @@ pub mod Collecting
 mod Marking
 pub mod Encoding
 pub mod Naming
+pub mod Hashing
+pub mod Seeing
 pub mod Running
 pub mod guards

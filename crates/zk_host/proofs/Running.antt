@@ -84,8 +84,8 @@ paused_in old new steps false false h = h
 
 pub has_paused : (old new : Play) (steps : ℕ) (why : Asked) → why ≡ pause_of new
     → (parts : ℕ) × Ran Collects wants_pause is_lost Unnoted old.text new.text (old.machine.state.steps + steps)
-    parts old.machine new.machine (Ok tt) → new ≡ record old { machine = new.machine; text = new.text }
-    → HasRun old new steps (Ok why)
+    parts old.machine new.machine (Ok tt)
+    → new ≡ record old { machine = new.machine; text = new.text; cover = new.cover } → HasRun old new steps (Ok why)
 has_paused old new steps why is come same =
     subst (λ (x : Asked). HasRun old new steps (Ok x)) (sym is)
     (paused_in old new steps (has_no_room new.text) new.text.short (come, refl, same))

@@ -1,6 +1,6 @@
 -- What the calls of a play answer, and how they leave it.
 use Rattle.std.specs.Prelude.{◌≡◌, ◌≤◌, ◌⊎◌, ◌+◌, ◌-◌, ◌^◌, min, ℕ, Bool, true, false, List, length, Option, Some, None}
-use Rattle.std.specs.Prelude.{Result, Ok, Err, is_none, if◌then◌else◌}
+use Rattle.std.specs.Prelude.{Result, Ok, Err, [], drop, is_none, map, replicate, if◌then◌else◌}
 use Rattle.std.specs.Global.{Vec, Box}
 use Rattle.zk_text.specs.Extra.{own_characters}
 use Rattle.zk_step.specs.declared.state.game_state.View.{View}
@@ -13,7 +13,7 @@ use Rattle.zk_vm.specs.Halts.{IsLeftAs, IsUndone, event_waited}
 use Rattle.zk_vm.specs.Log.{Entry, signals}
 use Rattle.zk_vm.specs.Logged.{Ran, RunsOn}
 use Rattle.zk_vm.specs.Pausing.{StandsShort}
-use Rattle.zk_vm.specs.Sessions.{Session, begun, given}
+use Rattle.zk_vm.specs.Sessions.{Session, begun, given, with_seed}
 use Rattle.zk_vm.specs.Plays.{image_of}
 use Rattle.zk_host.specs.declared.collected.Collected.{Collected}
 use Rattle.zk_host.specs.declared.play.Asked.{Asked}
@@ -44,14 +44,21 @@ use Rattle.zk_host.specs.Within.{AreWithin}
 abbrev pub awaited : Play → Option Event
 awaited p = event_waited p.machine.waiting
 
--- a play of a machine, with no text
-abbrev pub play_of : Session → Play
-play_of m =
-    record { machine = m; text = nothing_collected; name = nothing_collected; listing = no_text; stopped = None }
+-- a play of a story's machine, with no text
+abbrev pub play_of : List ℕ → Session → Play
+play_of story m = record {
+  machine = m;
+  story = story;
+  text = nothing_collected;
+  name = nothing_collected;
+  listing = no_text;
+  stopped = None;
+  cover = None;
+}
 
 -- a play at the start of a story
 abbrev pub begun_play : List ℕ → ℕ → Limits → View → Play
-begun_play story seed limits view = play_of (begun story seed limits view)
+begun_play story seed limits view = play_of story (begun story seed limits view)
 
 -- ---- running
 
@@ -75,7 +82,7 @@ pause_of p = if has_no_room p.text then asked.Room else if p.text.short then ask
 abbrev pub HasEnded : Play → Play → Result Event Stop → Type 0
 HasEnded old new answer =
     RunsOn (Shown old.text new.text) Unnoted old.machine new.machine answer (is_lost new.text)
-    × (new ≡ record old { machine = new.machine; text = new.text; stopped = stop_of answer })
+    × (new ≡ record old { machine = new.machine; text = new.text; stopped = stop_of answer; cover = new.cover })
 
 -- a play has paused after so many steps and parts of texts, or once there is no room or memory for more text
 abbrev pub HasPausedBy : Play → Play → ℕ → Asked → Type 0
@@ -83,14 +90,14 @@ HasPausedBy old new steps why =
     ((parts : ℕ) × Ran Collects wants_pause is_lost Unnoted old.text new.text (old.machine.state.steps + steps)
     parts old.machine new.machine (Ok tt))
     × (why ≡ pause_of new)
-    × (new ≡ record old { machine = new.machine; text = new.text })
+    × (new ≡ record old { machine = new.machine; text = new.text; cover = new.cover })
 
 -- a play has come to an instruction that keeps a state, for which there is no memory, and stands before it
 abbrev pub HasRunShort : Play → Play → ℕ → Type 0
 HasRunShort old new steps =
     ((parts : ℕ) × StandsShort Collects is_lost old.text new.text (old.machine.state.steps + steps) parts
     old.machine new.machine)
-    × (new ≡ record old { machine = new.machine; text = new.text })
+    × (new ≡ record old { machine = new.machine; text = new.text; cover = new.cover })
 
 -- a play has run for so many steps at most, by what the turn tells
 abbrev pub HasRun : Play → Play → ℕ → Result Asked Stop → Type 0
@@ -203,6 +210,27 @@ IsGoneBack None old new result =
     (undone old.machine.state) × (new ≡ record old { machine = new.machine })
 IsGoneBack (Some r) old new result = (result ≡ Err r) × (new ≡ old)
 
+-- ---- coverage
+
+-- where instructions are noted, each address of the story is marked or not; none is at first
+abbrev pub no_marks : Play → List Bool
+no_marks p = replicate (length p.machine.state.game.memory.bytes) false
+
+-- instructions are noted from now on, or there is no memory for it
+abbrev pub IsNoting : Play → Play → Result (Unit {0}) Refusal → Type 0
+IsNoting old new (Ok u) = new ≡ record old { cover = Some (no_marks old) }
+IsNoting old new (Err r) = (r ≡ refused.Memory) × (new ≡ old)
+
+-- a mark, as a byte
+abbrev pub mark_byte : Bool → ℕ
+mark_byte false = 0
+mark_byte true = 1
+
+-- the marks from an address on; there are none where nothing is noted
+abbrev pub marks_from : Option (List Bool) → ℕ → List ℕ
+marks_from None address = []
+marks_from (Some marks) address = map mark_byte (drop address marks)
+
 -- ---- the upper window
 
 -- the upper window can't be given a height in the middle of an instruction's text
@@ -240,6 +268,12 @@ IsListedBy l most old new (Ok u) = IsListing l (file_of old) new.listing.bytes �
     × (new ≡ record old { listing = new.listing })
 IsListedBy l most old new (Err r) = IsUnlisted l (file_of old) most r × (new ≡ with_none_listed old)
 
+-- memory as it stands is listed in the same way
+abbrev pub IsListedNow : Listing → ℕ → Play → Play → Result (Unit {0}) Refusal → Type 0
+IsListedNow l most old new (Ok u) = IsListing l old.machine.state.game.memory new.listing.bytes
+    × (length new.listing.bytes ≤ most) × (new ≡ record old { listing = new.listing })
+IsListedNow l most old new (Err r) = IsUnlisted l old.machine.state.game.memory most r × (new ≡ with_none_listed old)
+
 -- ---- snapshots
 
 -- the most bytes of a snapshot of a play with so many bytes of states, as far as a number of 64 bits tells it
@@ -257,7 +291,7 @@ IsSnapshot p most (Err r) =
 
 -- a play goes on from a snapshot of a story: its machine is one that has these bytes as its snapshot
 abbrev pub IsOpenedPlay : List ℕ → List ℕ → Play → Type 0
-IsOpenedPlay story bytes p = IsOpened story bytes p.machine × (p ≡ play_of p.machine)
+IsOpenedPlay story bytes p = IsOpened story bytes p.machine × (p ≡ play_of story p.machine)
 
 -- a machine has these bytes as its snapshot, and a limit that is beyond the one that it may have
 abbrev pub IsBeyond : List ℕ → List ℕ → Limits → Type 0
@@ -279,3 +313,30 @@ IsOpenedFrom story bytes most (Err (snapshot_refused.Story e)) =
     (refusal story ≡ Some e) ⊎ ((e ≡ OutOfMemory) × (refusal story ≡ None))
 IsOpenedFrom story bytes most (Err (snapshot_refused.Snapshot e)) = (refusal story ≡ None) × IsRefused story bytes e
 IsOpenedFrom story bytes most (Err snapshot_refused.Limits) = (refusal story ≡ None) × IsBeyond story bytes most
+
+-- ---- plays of one story
+
+-- a second play of a story begins at its start, where there are limits; or there is no memory for it
+abbrev pub IsBegunBeside : List ℕ → ℕ → Option Limits → View → Result (Box Play) SnapshotRefusal → Type 0
+IsBegunBeside story seed None view result = result ≡ Err snapshot_refused.Limits
+IsBegunBeside story seed (Some limits) view (Ok p) = p.value ≡ begun_play story seed limits view
+IsBegunBeside story seed (Some limits) view (Err r) = r ≡ snapshot_refused.Story OutOfMemory
+
+-- a second play of a story goes on from a snapshot, where there are limits
+abbrev pub IsPlayOpenedBeside : List ℕ → List ℕ → Option Limits → Result (Box Play) SnapshotRefusal → Type 0
+IsPlayOpenedBeside story bytes None result = result ≡ Err snapshot_refused.Limits
+IsPlayOpenedBeside story bytes (Some most) result = IsPlayOpened story bytes most result
+
+-- ---- clones
+
+-- a second play goes on from where one waits for a line or a character, without text; or that one waits for nothing of
+-- the kind, or there is no memory
+abbrev pub IsClone : Play → Result (Box Play) Refusal → Type 0
+IsClone p (Ok clone) = HasSnapshot p.machine × (clone.value ≡ play_of p.story p.machine)
+IsClone p (Err r) =
+    ((r ≡ refused.NotAwaited) × (HasSnapshot p.machine → ⊥)) ⊎ ((r ≡ refused.Memory) × HasSnapshot p.machine)
+
+-- its random numbers begin anew, where it waits for a line or a character
+abbrev pub IsReseeded : ℕ → Play → Play → Result (Unit {0}) Refusal → Type 0
+IsReseeded seed old new (Ok u) = HasSnapshot old.machine × (new ≡ record old { machine = with_seed old.machine seed })
+IsReseeded seed old new (Err r) = (r ≡ refused.NotAwaited) × (HasSnapshot old.machine → ⊥) × (new ≡ old)

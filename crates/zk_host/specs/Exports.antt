@@ -9,6 +9,7 @@ use Rattle.zk_vm.specs.declared.limits.Limits.{Limits}
 use Rattle.zk_vm.specs.declared.stop.Stop.{Stop}
 use Rattle.zk_vm.specs.Answers.{Answer}
 use Rattle.zk_vm.specs.Bounds.{AreInRange}
+use Rattle.zk_vm.specs.declared.machine.changing.Change.{Change}
 use Rattle.zk_vm.specs.Plays.{image_of}
 use Rattle.zk_host.specs.declared.play.Asked.{Asked}
 use Rattle.zk_host.specs.declared.play.Play.{Play}
@@ -19,8 +20,11 @@ use Rattle.zk_mem.specs.declared.header.Header.{Header}
 use Rattle.zk_vm.specs.Sessions.{Session}
 use Rattle.zk_host.specs.declared.facts.Facts.{Facts}
 use Rattle.zk_host.specs.declared.listing.Listing.{Listing}
+use Rattle.zk_host.specs.declared.listing.Listing.TheVariants as listing
 use Rattle.zk_host.specs.Calls.{awaited, begun_play, read_refused, IsGiven, IsGoneBack, IsListedBy, IsOpenedFrom}
+use Rattle.zk_host.specs.Calls.{IsBegunBeside, IsClone, IsListedNow, IsNoting, IsPlayOpenedBeside, IsReseeded}
 use Rattle.zk_host.specs.Calls.{IsSnapshot, IsTurned, with_none_listed}
+use Rattle.zk_host.specs.Changing.{IsChangedBy}
 use Rattle.zk_host.specs.Numbers.{answer_number, snapshot_number, turn_number, refused_number}
 
 -- a handle has a play before and after, of which something holds; or it is closed and stays so, and something else
@@ -134,3 +138,52 @@ abbrev pub IsListed : Option Listing → ℕ → Play → Play → ℕ → Type 
 IsListed None most old new n = (n ≡ 1) × (new ≡ with_none_listed old)
 IsListed (Some listing) most old new n =
     (result : Result (Unit {0}) Refusal) × (n ≡ answer_number result) × IsListedBy listing most old new result
+
+-- an instruction of memory as it stands is listed
+abbrev pub IsListedAt : ℕ → ℕ → Play → Play → ℕ → Type 0
+IsListedAt a most old new n =
+    (result : Result (Unit {0}) Refusal) × (n ≡ answer_number result)
+    × IsListedNow (listing.Instruction a) most old new result
+
+-- ---- plays of one story
+
+-- limits are those that numbers say, if these lie in their ranges
+abbrev pub AreSaid : Limits → Option Limits → Type 0
+AreSaid limits None = AreLimits limits → ⊥
+AreSaid limits (Some said) = (said ≡ limits) × AreLimits limits
+
+-- a second handle has a play at the start of the story of another one, or is as it was, and a number says why
+abbrev pub IsOpenedBeside : Play → Play → Option Play → Option Play → ℕ → Limits → View → ℕ → Type 0
+IsOpenedBeside old new before after seed limits view n = (new ≡ old)
+    × ((said : Option Limits) × (result : Result (Box Play) SnapshotRefusal) × AreSaid limits said
+    × IsBegunBeside old.story seed said view result × IsHeld before after result n)
+
+-- it has one that goes on from a snapshot of that story, or is as it was
+abbrev pub IsResumedBeside : Play → Play → Option Play → Option Play → List ℕ → Limits → ℕ → Type 0
+IsResumedBeside old new before after bytes most n = (new ≡ old)
+    × ((said : Option Limits) × (result : Result (Box Play) SnapshotRefusal) × AreSaid most said
+    × IsPlayOpenedBeside old.story bytes said result × IsHeld before after result n)
+
+-- ---- clones
+
+-- a second handle has a play that goes on from another one, or is as it was, and a number says why
+abbrev pub IsHeldClone : Option Play → Option Play → Result (Box Play) Refusal → ℕ → Type 0
+IsHeldClone before after (Ok p) n = (n ≡ 0) × (after ≡ Some p.value)
+IsHeldClone before after (Err r) n = (n ≡ refused_number r) × (after ≡ before)
+
+abbrev pub IsCloned : Play → Play → Option Play → Option Play → ℕ → Type 0
+IsCloned old new before after n = (new ≡ old)
+    × ((result : Result (Box Play) Refusal) × IsClone old result × IsHeldClone before after result n)
+
+abbrev pub IsSeeded : ℕ → Play → Play → ℕ → Type 0
+IsSeeded seed old new n =
+    (result : Result (Unit {0}) Refusal) × (n ≡ answer_number result) × IsReseeded seed old new result
+
+-- memory was changed, and what is told of it
+abbrev pub IsChanging : Option Change → Play → Play → ℕ → Type 0
+IsChanging c old new n =
+    (result : Result (Unit {0}) Refusal) × (n ≡ answer_number result) × IsChangedBy c old new result
+
+-- instructions are noted, and what is told of it
+abbrev pub IsCovering : Play → Play → ℕ → Type 0
+IsCovering old new n = (result : Result (Unit {0}) Refusal) × (n ≡ answer_number result) × IsNoting old new result

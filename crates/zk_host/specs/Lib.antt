@@ -4,10 +4,13 @@ pub mod Marks
 pub mod Collecting
 pub mod Drawing
 pub mod Listings
+pub mod Hashes
+pub mod Looking
 pub mod NameSinks
 pub mod Names
 pub mod Typing
 pub mod Calls
+pub mod Changing
 pub mod Numbers
 pub mod Exports
 pub mod Files

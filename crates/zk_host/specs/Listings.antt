@@ -1,5 +1,6 @@
 -- Listings of a story.
-use Rattle.std.specs.Prelude.{◌≡◌, ◌<◌, ◌⊎◌, ℕ, false, List, [], map, Option, Some, None, if◌then◌else◌, ◌==◌, length}
+use Rattle.std.specs.Prelude.{◌≡◌, ◌<◌, ◌⊎◌, ℕ, false, List, [], ◌∷◌, map, Option, Some, None, if◌then◌else◌, ◌==◌}
+use Rattle.std.specs.Prelude.{length}
 use Rattle.zk_mem.specs.Map.{MemoryMap}
 use Rattle.zk_inspect.specs.CodeFacts.{AreReachedFacts}
 use Rattle.zk_inspect.specs.Facts.{AreNone}
@@ -20,12 +21,14 @@ abbrev pub AreListed : Listing → MemoryMap → List Fact → Type 0
 AreListed (listing.Section s) m facts = AreOfSection s m facts
 AreListed listing.Code m facts = AreReachedFacts m [] [] facts
 AreListed listing.Findings m facts = (fs : List Finding) × AreFindings m fs × (facts ≡ map fact.Finding fs)
+AreListed (listing.Instruction a) m facts = facts ≡ fact.Instruction a ∷ []
 
 -- facts are those that a listing has where there is no memory for more
 abbrev pub AreSomeListed : Listing → MemoryMap → List Fact → Type 0
 AreSomeListed (listing.Section s) m facts = AreSomeOfSection s m facts
 AreSomeListed listing.Code m facts = AreNone facts
 AreSomeListed listing.Findings m facts = AreNone facts
+AreSomeListed (listing.Instruction a) m facts = AreNone facts
 
 -- a text is a listing of a story: a line for each fact
 abbrev pub IsListing : Listing → MemoryMap → List ℕ → Type 0
@@ -46,6 +49,7 @@ IsUnlisted l m most refused.NotAwaited = ⊥
 IsUnlisted l m most refused.NotALine = ⊥
 IsUnlisted l m most refused.NoState = ⊥
 IsUnlisted l m most refused.NotAKey = ⊥
+IsUnlisted l m most refused.NotChanged = ⊥
 
 -- the listings by their numbers
 abbrev pub listing_numbered : ℕ → Option Listing

@@ -39,6 +39,7 @@ refused_number refused.NoState = 5
 refused_number refused.TooLong = 6
 refused_number refused.TooManyWords = 7
 refused_number refused.NotAKey = 10
+refused_number refused.NotChanged = 12
 
 abbrev pub answer_number : Result (Unit {0}) Refusal → ℕ
 answer_number (Ok u) = 0

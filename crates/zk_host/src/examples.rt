@@ -1,6 +1,7 @@
 // Worked examples of the definitions, which refuse one that is turned together with its body.
 
-ghost use Rattle.zk_host.specs.guards.Examples.{KeysAreCodes, StylesHaveMarks, SignalsMark, RunsAreTold};
+ghost use Rattle.zk_host.specs.guards.Examples.{HashesAreKnown, KeysAreCodes, MarksAreBytes, RunsAreTold, SignalsMark};
+ghost use Rattle.zk_host.specs.guards.Examples.{ChangesAreMade, ChangesAreRead, ObjectsAreTold, StylesHaveMarks};
 
 /// Styles, erasures and bleeps before characters, and their runs.
 #[tactic(auto, unfolding(crate::proofs::guards::Opened::examples))]
@@ -14,4 +15,24 @@ pub fn marks_by_example()
 #[tactic(auto, unfolding(crate::proofs::guards::Opened::examples))]
 pub fn keys_by_example()
     ensures { KeysAreCodes }
+{}
+
+/// Objects and their properties (Standard, section 12).
+#[tactic(auto, unfolding(crate::proofs::guards::Opened::examples, zk_tables::proofs::Opened::examples))]
+pub fn objects_by_example()
+    ensures { ObjectsAreTold }
+{}
+
+/// Changes that a host makes (Standard, section 15, `storew`, `insert_obj` and `remove_obj`).
+#[tactic(auto, unfolding(crate::proofs::guards::Opened::examples, zk_tables::proofs::Opened::examples))]
+pub fn changes_by_example()
+    ensures read { ChangesAreRead }
+    ensures made { ChangesAreMade }
+{}
+
+/// Hashes of bytes, and marks of addresses.
+#[tactic(auto, unfolding(crate::proofs::guards::Opened::examples))]
+pub fn looks_by_example()
+    ensures hashes_are_known { HashesAreKnown }
+    ensures marks_are_bytes { MarksAreBytes }
 {}

@@ -12,7 +12,7 @@ use crate::text::Text;
 use std::alloc::{AllocError, Global};
 use zk_inspect::check::check;
 use zk_inspect::check::finding_lines::list_findings;
-use zk_inspect::fact::FactWriter;
+use zk_inspect::fact::{Fact, FactWriter};
 use zk_inspect::listing::{list_reached, list_section};
 use zk_inspect::plain_text::PlainText;
 use zk_inspect::section::Section;
@@ -28,6 +28,8 @@ pub enum Listing {
     Code,
     /// What is wrong with it.
     Findings,
+    /// The instruction at a byte address.
+    Instruction(u32),
 }
 
 /// The listing of a number.
@@ -81,6 +83,10 @@ fn list_facts<F: FactWriter>(
         Listing::Section(section) => list_section(alloc, memory, section, facts),
         Listing::Code => list_reached(alloc, memory, &[], &[], facts),
         Listing::Findings => list_all_findings(alloc, memory, facts),
+        Listing::Instruction(address) => {
+            facts.write(Fact::Instruction(address));
+            Ok(())
+        }
     }
 }
 

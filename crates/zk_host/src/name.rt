@@ -1,24 +1,25 @@
-// The name in the status line.
+// The name in the status line, and those of objects.
 
-ghost use Rattle.std.specs.Prelude.{◌≡◌, [], List, Ok, IsOk, take};
+ghost use Rattle.std.specs.Prelude.{◌≡◌, [], List, Ok, IsOk, MatchResult, take, true, false};
 ghost use Rattle.zk_text.specs.declared.unit.Unit.{Unit};
 ghost use Rattle.zk_text.specs.Extra.{own_characters};
 ghost use Rattle.zk_text.specs.Meaning.{text_units};
 ghost use Rattle.zk_text.specs.Shown.{shown, shown_all};
 ghost use Rattle.zk_step.specs.Status.{named};
 ghost use Rattle.zk_host.specs.Collecting.{CollectsTexts, nothing_collected};
-ghost use Rattle.zk_host.specs.Names.{HasName, IsNamed, IsNameOf, first_units};
+ghost use Rattle.zk_host.specs.Names.{HasName, IsNamed, IsNameOf, IsObjectName, first_units};
 
 use crate::collected::Collected;
 use std::alloc::Global;
 use zk_mem::memory::Memory;
 use zk_step::output::status::StatusLine;
+use zk_tables::properties::name as short_name;
 use zk_term::screen::Screen;
 use zk_term::style::Style;
 use zk_text::extra::Extra;
 use zk_text::shown::Shown;
 use zk_text::sink::{Sink, SinkFault};
-use zk_text::text::print_text;
+use zk_text::text::{check_text, print_text};
 use zk_text::unit::Unit;
 use zk_text::walked::words_walked;
 
@@ -152,5 +153,33 @@ pub fn name_of(alloc: Global, memory: &Memory, status: Option<StatusLine>) -> Co
     match status {
         Some(line) => name_at(alloc, memory, line.name),
         None => Collected::new(alloc),
+    }
+}
+
+/// Whether an object's short name can be read.
+fn is_readable(memory: &Memory, name: Option<u32>) -> bool
+    ensures { MatchResult (named memory.now name) (λ _. result ≡ true) (λ _. result ≡ false) }
+{
+    match name {
+        None => true,
+        Some(address) => check_text(memory, address).is_ok(),
+    }
+}
+
+/// The short name of the object of a number, where it has one that can be read.
+pub fn object_name(alloc: Global, memory: &Memory, object: u32) -> Collected
+    ensures { IsObjectName memory.now object result }
+{
+    if object > 65_535 {
+        return Collected::new(alloc);
+    }
+    match short_name(memory, object as u16) {
+        Ok(name) => {
+            if is_readable(memory, name) {
+                return name_at(alloc, memory, name);
+            }
+            Collected::new(alloc)
+        }
+        Err(_) => Collected::new(alloc),
     }
 }

@@ -46,6 +46,7 @@ pub fn refused_number(refusal: Refusal) -> u32
         Refusal::TooLong => 6,
         Refusal::TooManyWords => 7,
         Refusal::NotAKey => 10,
+        Refusal::NotChanged => 12,
     }
 }
 

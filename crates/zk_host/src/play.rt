@@ -1,6 +1,6 @@
 // A story that is played by calls.
 
-ghost use Rattle.std.specs.Prelude.{◌≡◌, ◌≤◌, ◌⊎◌, IfErr, IfOk, OnOk, length, min};
+ghost use Rattle.std.specs.Prelude.{◌≡◌, ◌≤◌, ◌+◌, ◌⊎◌, IfErr, IfOk, OnOk, None, Some, false, length, min};
 ghost use Rattle.zk_vm.specs.Answers.Answer.{Typed, GameKept, File};
 ghost use Rattle.zk_vm.specs.Bounds.{AreInRange};
 ghost use Rattle.zk_vm.specs.Plays.{codes_read, image_of};
@@ -8,12 +8,21 @@ ghost use Rattle.zk_mem.specs.Fresh.{fresh, plain_setup};
 ghost use Rattle.zk_mem.specs.Header.{header_of};
 ghost use Rattle.zk_mem.specs.Story.{refusal};
 ghost use Rattle.zk_term.specs.Windows.{row_cells, row_text, tallest_row_cells, tallest_row_text};
+ghost use Rattle.zk_vm.specs.Pausing.{HasCome, come_to};
 ghost use Rattle.zk_vm.specs.Sessions.{with_grid_forgotten, with_height};
+ghost use Rattle.zk_host.specs.Collecting.{Collects, is_lost, wants_pause};
 ghost use Rattle.zk_host.specs.Drawing.{longest_line, row_bytes, row_number, row_styles, window_of};
 ghost use Rattle.zk_host.specs.Listings.{IsListing, IsUnlisted};
+ghost use Rattle.zk_host.specs.declared.listing.Listing.TheVariants as listing;
 ghost use Rattle.zk_host.specs.Marks.{run_of, run_told, taken_from, with_styles};
 ghost use Rattle.zk_snapshot.specs.Opening.{IsRefused};
 ghost use Rattle.zk_host.specs.Texts.{IsTaken};
+
+mod beside;
+pub mod changing;
+mod cloning;
+mod coverage;
+mod looking;
 
 use crate::collected::Collected;
 use crate::drawing::{
@@ -28,6 +37,7 @@ use crate::text::Text;
 use crate::typed::{code_of, codes_of, ending_key, is_line};
 use arrayvec::ArrayVec;
 use std::alloc::{AllocError, Global};
+use zk_fast::places::{Cover, Unnoted};
 use zk_mem::header::Header;
 use zk_mem::memory::{Memory, ScreenSetup, Setup};
 use zk_mem::story::{OpenError, Story};
@@ -57,6 +67,8 @@ pub enum Refusal {
     TooManyWords,
     /// The key ends no line of the story.
     NotAKey,
+    /// The story could not make the change.
+    NotChanged,
 }
 
 /// Why no play goes on from a snapshot.
@@ -87,11 +99,15 @@ pub enum Asked {
 #[derive(Drop)]
 pub struct Play {
     machine: PausingMachine,
+    // the story that is played, whose file other plays may share
+    story: Story,
     text: Collected,
     // what a host asks for beside the play: the name in the status line, and a listing
     name: Collected,
     listing: Text,
     stopped: Option<Stop>,
+    // which instructions were carried out, where that is noted
+    cover: Option<Cover>,
 }
 
 /// So many states to go back to the header's fields speak of where a story is listed: what `zkit info` has.
@@ -127,26 +143,47 @@ fn list_file(alloc: Global, memory: &Memory, listing: Listing, most: usize) -> R
     }
 }
 
+/// Runs a machine as its own `run_for`, and notes the instructions where that is wanted.
+fn run_noting(
+    machine: &mut PausingMachine,
+    text: &mut Collected,
+    cover: &mut Option<Cover>,
+    steps: u32,
+) -> Result<Reached, Stop>
+    requires free { machine.old.waiting ≡ None }
+    requires room { wants_pause text.old ≡ false }
+    ensures logged { HasCome Collects wants_pause is_lost text.old text.new (machine.old.state.steps + steps)
+        machine.old machine.new (come_to result) }
+    ensures stops { IfErr result (λ stop. machine.new.stopped ≡ Some stop) }
+{
+    match cover {
+        None => machine.run_for(text, &mut Unnoted, steps),
+        Some(cover) => machine.run_for(text, cover, steps),
+    }
+}
+
 impl Play {
     ghost use Rattle.zk_host.specs.Calls.{begun_play, play_of, IsOpenedFrom, IsPlayOpened, IsSnapshot};
     ghost use Rattle.zk_host.specs.Calls.{longest_snapshot, awaited, pause_of, HasRun, IsGivenUnless, IsGoneBack};
-    ghost use Rattle.zk_host.specs.Calls.{IsImage, IsListedBy, IsStatus, IsTurned, line_refused, character_refused};
+    ghost use Rattle.zk_host.specs.Calls.{IsImage, IsListedBy, IsListedNow, IsStatus, IsTurned, line_refused};
+    ghost use Rattle.zk_host.specs.Calls.{character_refused};
     ghost use Rattle.zk_host.specs.Calls.{read_refused, save_refused, restore_refused, character_read};
     ghost use Rattle.zk_host.specs.Calls.{done_unless, split_refused, with_none_listed};
-    ghost use Rattle.zk_host.specs.Collecting.{wants_pause};
     ghost use Rattle.std.specs.Prelude.{Option, Some, None, false, option_copied, ◌∷◌, []};
 
-    /// A play of a machine, with no text.
-    fn of(alloc: Global, machine: Machine) -> Result<Box<Play>, AllocError>
-        ensures { IfOk result (λ p. p.value ≡ play_of machine) }
+    /// A play of a story's machine, with no text.
+    pub(crate) fn of(alloc: Global, story: Story, machine: Machine) -> Result<Box<Play>, AllocError>
+        ensures { IfOk result (λ p. p.value ≡ play_of story machine) }
     {
         let machine = PausingMachine::of(alloc, machine)?;
         let play = Play {
             machine,
+            story,
             text: Collected::new(alloc),
             name: Collected::new(alloc),
             listing: Text::new(alloc),
             stopped: None,
+            cover: None,
         };
         match Box::new(alloc, play) {
             Ok(play) => Ok(play),
@@ -165,8 +202,9 @@ impl Play {
         requires { AreInRange limits }
         ensures { IfOk result (λ p. p.value ≡ begun_play story seed limits view) }
     {
+        let kept = story.try_clone()?;
         let machine = Machine::start(alloc, story, seed, limits, view)?;
-        Play::of(alloc, machine)
+        Play::of(alloc, kept, machine)
     }
 
     /// A play at the start of the story that bytes are, or why they are none; lack of memory is looked for last.
@@ -200,6 +238,9 @@ impl Play {
     ) -> Result<Box<Play>, SnapshotRefusal>
         ensures { IsPlayOpened story bytes.now most result }
     {
+        let Ok(kept) = story.try_clone() else {
+            return Err(SnapshotRefusal::Snapshot(SnapshotError::OutOfMemory));
+        };
         let machine = match open_snapshot(alloc, story, bytes) {
             Ok(machine) => machine,
             Err(error) => return Err(SnapshotRefusal::Snapshot(error)),
@@ -207,7 +248,7 @@ impl Play {
         if !are_within(machine.limits(), most) {
             return Err(SnapshotRefusal::Limits);
         }
-        match Play::of(alloc, machine) {
+        match Play::of(alloc, kept, machine) {
             Ok(play) => Ok(play),
             Err(_) => Err(SnapshotRefusal::Snapshot(SnapshotError::OutOfMemory)),
         }
@@ -262,7 +303,7 @@ impl Play {
         requires room { wants_pause self.old.text ≡ false }
         ensures { HasRun self.old self.new steps result }
     {
-        let ran = self.machine.run_for(&mut self.text, steps);
+        let ran = run_noting(&mut self.machine, &mut self.text, &mut self.cover, steps);
         if self.text.is_lost() {
             self.machine.close(Stop::Write);
             self.stopped = Some(Stop::Write);
@@ -551,6 +592,29 @@ impl Play {
                 Ok(())
             }
             Err(refusal) => Err(refusal),
+        }
+    }
+
+    /// Lists the instruction at a byte address of memory as it stands, as a disassembly does, in at most so many bytes,
+    /// in place of an earlier listing. Where it is refused there is none.
+    pub fn list_instruction(
+        &mut self,
+        alloc: Global,
+        address: u32,
+        most: usize,
+    ) -> Result<(), Refusal>
+        ensures { IsListedNow (listing.Instruction address) most self.old self.new result }
+    {
+        let memory = self.machine.machine().memory();
+        match list(alloc, memory, Listing::Instruction(address), most) {
+            Ok(text) => {
+                self.listing = text;
+                Ok(())
+            }
+            Err(refusal) => {
+                self.listing = Text::new(alloc);
+                Err(refusal)
+            }
         }
     }
 
