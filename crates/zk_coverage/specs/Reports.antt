@@ -9,6 +9,7 @@ use Rattle.zk_coverage.specs.declared.lines.LineState.TheVariants as state
 use Rattle.zk_coverage.specs.declared.ran.Ran.{Ran}
 use Rattle.zk_coverage.specs.declared.ran.Share.{Share}
 use Rattle.zk_coverage.specs.declared.ran.Span.{Span}
+use Rattle.zk_coverage.specs.declared.ran.Text.{Text}
 use Rattle.zk_coverage.specs.declared.summary.RoutineTally.{RoutineTally}
 use Rattle.zk_coverage.specs.declared.tally.Tally.{Tally}
 
@@ -60,11 +61,19 @@ abbrev pub address_lines : Ran → List ℕ → List ℕ
 address_lines ran [] = []
 address_lines ran (r ∷ rest) = address_line ran r rest ++ address_lines ran rest
 
+-- how many of the texts that lie apart from code were printed, if there are any
+abbrev pub strings_of : Ran → List Text → List ℕ
+strings_of ran [] = []
+strings_of ran strings = codes "strings: " ++ share_of (texts_share ran.covered.now strings) (codes " texts\n")
+
+unfoldable pub strings_line : Ran → List ℕ
+strings_line ran = strings_of ran ran.strings.now
+
 -- the summary of a story whose source is not known
 unfoldable pub summary_by_address : Ran → List ℕ
 summary_by_address ran =
     start_line ran ++ address_lines ran ran.routines.now
-    ++ codes "all: " ++ share_of (texts_share ran.covered.now ran.texts.now) (codes " texts\n")
+    ++ codes "all: " ++ share_of (texts_share ran.covered.now ran.texts.now) (codes " texts\n") ++ strings_line ran
 
 -- 1 for what ran, and 0 for what did not
 abbrev pub count_of : Bool → ℕ

@@ -112,6 +112,8 @@ const NEVER_RAN: &[u8] = b"<h2>What never ran</h2>\n<ul>\n";
 
 const NEVER_SHOWN: &[u8] = b"<h2>Texts that no test has shown</h2>\n<ul>\n";
 
+const NEVER_PRINTED: &[u8] = b"<h2>Strings that no test has shown</h2>\n<ul>\n";
+
 /// A file of the source, as a page has it.
 #[derive(Drop)]
 struct PageFile<'s> {
@@ -221,6 +223,19 @@ fn push_never_ran(
     page.extend_from_slice(b"</ul>\n")
 }
 
+/// Adds the list of the texts that lie apart from code and were not shown, if there are such texts.
+fn push_never_printed(page: &mut Vec<u8>, alloc: Global, ran: &Ran<'_>) -> Result<(), AllocError> {
+    if ran.strings.is_empty() {
+        return Ok(());
+    }
+    page.extend_from_slice(NEVER_PRINTED)?;
+    let missed = ran.never_shown(alloc, ran.strings)?;
+    for text in missed.as_slice() {
+        push_within(page, b"<li><q>", text.shown, b"</q></li>\n")?;
+    }
+    page.extend_from_slice(b"</ul>\n")
+}
+
 /// Adds the list of the texts that were not shown.
 fn push_never_shown(
     page: &mut Vec<u8>,
@@ -230,7 +245,7 @@ fn push_never_shown(
     files: &[PageFile<'_>],
 ) -> Result<(), AllocError> {
     page.extend_from_slice(NEVER_SHOWN)?;
-    let missed = ran.texts_never_shown(alloc)?;
+    let missed = ran.never_shown(alloc, ran.texts)?;
     for text in missed.as_slice() {
         let place = match names {
             Some(names) => names.place_at(text.address),
@@ -239,7 +254,8 @@ fn push_never_shown(
         push_within(page, b"<li><q>", text.shown, b"</q>")?;
         push_place(page, files, place)?;
     }
-    page.extend_from_slice(b"</ul>\n")
+    page.extend_from_slice(b"</ul>\n")?;
+    push_never_printed(page, alloc, ran)
 }
 
 /// How the row of a line begins in a listing, and its sign.

@@ -7,10 +7,10 @@ ghost use Rattle.zk_coverage.specs.Coverage.{never_shown, texts_share, was_enter
 
 use std::alloc::{AllocError, Global};
 
-/// An instruction that prints a text of its own.
+/// A text of a story.
 #[derive(Clone, Copy, Drop)]
 pub struct Text<'a> {
-    /// The instruction's byte address.
+    /// The byte address of the instruction that has it, or its own, where it lies apart from code.
     pub address: u32,
     /// The text, as a listing shows it.
     pub shown: &'a [u8],
@@ -19,14 +19,17 @@ pub struct Text<'a> {
 /// What ran of a story, and what there is.
 #[derive(Clone, Copy, Drop)]
 pub struct Ran<'a> {
-    /// The byte addresses of the instructions that ran, ascending, each once.
+    /// The byte addresses of the instructions that ran, and of the texts that were printed by theirs: ascending, each
+    /// once.
     pub covered: &'a [u32],
     /// The byte addresses of all instructions that are listed, ascending.
     pub instructions: &'a [u32],
     /// The byte addresses of all routines that are listed, ascending: each that of its count of local variables.
     pub routines: &'a [u32],
-    /// The texts that are printed, by their addresses, ascending.
+    /// The texts of instructions, by their addresses, ascending.
     pub texts: &'a [Text<'a>],
+    /// The texts that lie apart from code, where plays were looked at for those that they print.
+    pub strings: &'a [Text<'a>],
 }
 
 /// What is above all addresses.
@@ -129,13 +132,17 @@ impl<'a> Ran<'a> {
         }
     }
 
-    /// The texts that were not shown.
-    pub(crate) fn texts_never_shown(&self, alloc: Global) -> Result<Vec<Text<'a>>, AllocError>
+    /// Those of texts that were not shown.
+    pub(crate) fn never_shown(
+        &self,
+        alloc: Global,
+        texts: &[Text<'a>],
+    ) -> Result<Vec<Text<'a>>, AllocError>
         ensures { IfOk result (λ v. AreInOrder self.now
-            → v.items ≡ filter (never_shown self.now) self.now.texts.now) }
+            → v.items ≡ filter (never_shown self.now) texts.now) }
     {
         let mut missed = Vec::new(alloc);
-        for text in self.texts {
+        for text in texts {
             if !self.has_run(text.address) {
                 missed.push(*text)?;
             }

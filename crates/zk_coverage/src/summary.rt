@@ -3,7 +3,7 @@
 ghost use Rattle.std.specs.Prelude.{◌≡◌, ◌++◌, IfOk, IsNone, OnOk};
 ghost use Rattle.zk_coverage.specs.Coverage.{AreInOrder};
 ghost use Rattle.zk_coverage.specs.Reports.{address_lines, routine_line, span_line, start_line};
-ghost use Rattle.zk_coverage.specs.Reports.{summary_by_address, tally_line};
+ghost use Rattle.zk_coverage.specs.Reports.{strings_line, summary_by_address, tally_line};
 ghost use Rattle.zk_coverage.specs.Tallies.{rest_line};
 
 use crate::ran::{Ran, Share, Span};
@@ -126,6 +126,19 @@ fn push_rest(
     push_share(out, texts, b" texts\n")
 }
 
+/// Adds the line of the texts that lie apart from code, if there are any.
+#[tactic(auto, unfolding(crate::specs::Reports::strings_line))]
+fn push_strings(out: &mut Vec<u8>, ran: &Ran<'_>) -> Result<(), AllocError>
+    ensures { OnOk result
+        (AreInOrder ran.now → out.new.items ≡ out.old.items ++ strings_line ran.now) }
+{
+    if ran.strings.is_empty() {
+        return Ok(());
+    }
+    out.extend_from_slice(b"strings: ")?;
+    push_share(out, ran.shown_of(ran.strings), b" texts\n")
+}
+
 /// The lines of a story whose source is known.
 fn summary_by_source(report: &Report<'_, '_, '_>) -> Result<Vec<u8>, AllocError> {
     let texts = placed_texts(report.alloc, report.ran.texts, report.names)?;
@@ -134,6 +147,7 @@ fn summary_by_source(report: &Report<'_, '_, '_>) -> Result<Vec<u8>, AllocError>
     push_rest(&mut out, report, texts.as_slice())?;
     out.extend_from_slice(b"all: ")?;
     push_tally(&mut out, report.all(lines))?;
+    push_strings(&mut out, &report.ran)?;
     Ok(out)
 }
 
@@ -183,6 +197,7 @@ fn summary_by_address(alloc: Global, ran: &Ran<'_>) -> Result<Vec<u8>, AllocErro
     push_addresses(&mut out, alloc, ran)?;
     out.extend_from_slice(b"all: ")?;
     push_share(&mut out, ran.shown_of(ran.texts), b" texts\n")?;
+    push_strings(&mut out, ran)?;
     Ok(out)
 }
 

@@ -1,1 +1,5 @@
 mod Pieces
+mod Taken
+mod ThingKinds
+mod Walks
+pub mod guards

@@ -33,6 +33,10 @@ pub enum Wrong {
     Local,
     /// A sequence point without an address or a place in the source.
     Point,
+    /// A global variable, an object, a class, a property or an attribute without a name or a number.
+    Named,
+    /// An array without a name, an address or a length, or whose elements have not 1 or 2 bytes.
+    Array,
     /// A routine or a sequence point that stands where another one does, or before it.
     Order,
     /// The story's first bytes are missing, or are no 64 bytes.
@@ -56,6 +60,10 @@ impl Wrong {
             Wrong::Routine => "a routine has no name, no address or no length",
             Wrong::Local => "a local variable has no name or no number",
             Wrong::Point => "a sequence point has no address or no place in the source",
+            Wrong::Named =>
+                "a variable, an object, a property or an attribute has no name or no number",
+            Wrong::Array =>
+                "an array has no name, no address, no length or no size of its elements",
             Wrong::Order => "addresses do not ascend",
             Wrong::Prefix => "the first bytes of the story are missing",
         }

@@ -4,6 +4,9 @@
 pub mod damage;
 pub(crate) mod document;
 pub mod examples;
+pub mod named;
 pub mod names;
+pub(crate) mod routines;
 pub(crate) mod section;
+pub(crate) mod taking;
 pub mod text;

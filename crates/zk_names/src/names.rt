@@ -1,16 +1,18 @@
 // The names of a story's routines and of their local variables, and the places in the source that code is made of.
 
-ghost use Rattle.std.specs.Prelude.{◌≡◌, ◌==◌, IfOk, drop, option_map, take};
-ghost use Rattle.std.specs.List.{starts_with};
-ghost use Rattle.zk_names.specs.Documents.{IsSomeDocument};
-ghost use Rattle.zk_names.specs.Places.{is_in, last_before, locals_of, place_at, points_of, routine_at, source_of};
+ghost use Rattle.std.specs.Prelude.{◌≡◌, ◌==◌, List, IfNone, IfOk, drop, length, option_map, take};
+ghost use Rattle.std.specs.List.{find, starts_with};
+ghost use Rattle.zk_names.specs.Documents.{Element, IsDocument, IsSomeDocument};
+ghost use Rattle.zk_names.specs.Places.{address_on, is_in, is_on, last_before, locals_of, place_at, points_of};
+ghost use Rattle.zk_names.specs.Places.{routine_at, routine_from, routine_named, source_of};
+ghost use Rattle.zk_names.specs.Said.{Says};
+ghost use Rattle.zk_names.specs.Things.{array_at, array_from, is_given, is_thing, named_of};
 
-use crate::damage::{ReadError, Wrong, damaged, put};
-use crate::document::{Element, elements_in, name_of};
-use crate::section::Section;
-use crate::text::number_in;
-use base64::DecodeAllocError;
-use base64::engine::general_purpose::STANDARD;
+use crate::damage::{ReadError, Wrong, damaged};
+use crate::document::elements_in;
+use crate::named::{Array, Kind, Named};
+use crate::routines::{Routines, routines_in};
+use crate::taking::{arrays_in, named_in, prefix_in, sources_in};
 use std::alloc::Global;
 
 /// A file of the source.
@@ -40,6 +42,15 @@ pub struct Point {
     pub place: Place,
 }
 
+impl Point {
+    /// Whether it is on a line of a file.
+    fn is_on(&self, file: u32, line: u32) -> bool
+        ensures { result ≡ is_on file line self.now }
+    {
+        self.place.file == file && self.place.line == line
+    }
+}
+
 /// A local variable of a routine.
 #[derive(Clone, Copy, Drop)]
 pub struct Local<'a> {
@@ -58,10 +69,12 @@ pub struct Routine<'a> {
     pub length: u32,
     /// Where it begins in the source, if it is not the compiler's own.
     pub place: Option<Place>,
-    first_point: usize,
-    points: usize,
-    first_local: usize,
-    locals: usize,
+    /// Where its sequence points begin among those of all routines, and how many it has.
+    pub(crate) first_point: usize,
+    pub(crate) points: usize,
+    /// Where its local variables begin among those of all routines, and how many it has.
+    pub(crate) first_local: usize,
+    pub(crate) locals: usize,
 }
 
 impl Routine<'_> {
@@ -81,22 +94,13 @@ pub struct Names<'a> {
     pub routines: Vec<Routine<'a>>,
     /// The sequence points of all routines, in the order of their addresses.
     pub points: Vec<Point>,
+    /// Global variables, objects, classes, properties and attributes, in the file's order.
+    pub named: Vec<Named<'a>>,
+    /// The arrays, in the file's order.
+    pub arrays: Vec<Array<'a>>,
     locals: Vec<Local<'a>>,
     /// The first bytes of the story.
     prefix: Vec<u8>,
-}
-
-/// The place in the source that an element is.
-fn place_of(place: &Section<'_, '_>) -> Option<Place> {
-    Some(Place {
-        file: place.number(b"file-index")?,
-        line: place.number(b"line")?,
-    })
-}
-
-/// The number in the attribute of a tag that has one alone.
-fn index_in(tag: &[u8]) -> Option<u32> {
-    number_in(tag.strip_prefix(b"source index=\"")?.strip_suffix(b"\"")?)
 }
 
 /// So many items that stand behind others, or as many as there are.
@@ -119,20 +123,35 @@ fn last_before(points: &[Point], address: u32) -> Option<Point>
     None
 }
 
-/// The sequence point that an element is.
-fn point_in(section: &Section<'_, '_>) -> Option<Point> {
-    Some(Point {
-        address: section.number(b"address")?,
-        place: place_of(&section.section(b"source-code-location")?)?,
-    })
+/// The file of a number.
+pub(crate) fn source_of<'a>(sources: &[Source<'a>], index: u32) -> Option<Source<'a>>
+    ensures { result ≡ source_of sources.now index }
+{
+    sources.iter().copied().find(|source| source.index == index)
 }
 
-/// The local variable that an element is.
-fn local_in<'a>(section: &Section<'_, 'a>) -> Option<Local<'a>> {
-    Some(Local {
-        number: section.number(b"index")?,
-        name: section.text(b"identifier")?,
-    })
+/// The first of sequence points on a line of a file.
+fn point_on(points: &[Point], file: u32, line: u32) -> Option<Point>
+    ensures { result ≡ find (is_on file line) points.now }
+{
+    points.iter().copied().find(|point| point.is_on(file, line))
+}
+
+/// The first of a kind and a value, of things that have a place in the source.
+fn given_named<'a>(named: &[Named<'a>], kind: Kind, value: u32) -> Option<Named<'a>>
+    ensures { result ≡ find (is_given kind value) named.now }
+{
+    named
+        .iter()
+        .copied()
+        .find(|named| named.is_given(kind, value))
+}
+
+/// The first of a kind and a value, of things.
+fn first_named<'a>(named: &[Named<'a>], kind: Kind, value: u32) -> Option<Named<'a>>
+    ensures { result ≡ find (is_thing kind value) named.now }
+{
+    named.iter().copied().find(|named| named.is(kind, value))
 }
 
 impl<'a> Names<'a> {
@@ -141,203 +160,68 @@ impl<'a> Names<'a> {
     /// Refused with `Damaged` where the file is damaged, at a place that is wrong, and with `Memory` where there
     /// is no memory for them.
     pub fn read(alloc: Global, bytes: &'a [u8]) -> Result<Names<'a>, ReadError>
-        ensures { IfOk result (λ n. IsSomeDocument bytes.now) }
+        ensures document { IfOk result (λ n. IsSomeDocument bytes.now) }
+        ensures prefix { IfOk result (λ n. length n.prefix.items ≡ 64) }
+        ensures said { IfOk result (λ n. (elements : List Element) × IsDocument bytes.now elements × Says elements n) }
     {
         let elements = elements_in(alloc, bytes)?;
-        let mut names = Names {
-            sources: Vec::new(alloc),
-            routines: Vec::new(alloc),
-            points: Vec::new(alloc),
-            locals: Vec::new(alloc),
-            prefix: Vec::new(alloc),
+        let elements = elements.as_slice();
+        let sources = sources_in(alloc, elements)?;
+        let named = named_in(alloc, elements)?;
+        let arrays = arrays_in(alloc, elements)?;
+        let prefix = prefix_in(alloc, elements)?;
+        let Routines {
+            routines,
+            points,
+            locals,
+        } = routines_in(alloc, elements)?;
+        let names = Names {
+            sources,
+            routines,
+            points,
+            named,
+            arrays,
+            locals,
+            prefix,
         };
-        names.take_all(alloc, elements.as_slice())?;
-        if names.prefix.len() != 64 {
-            return Err(damaged(bytes.len(), Wrong::Prefix));
-        }
-        if names.has_all_sources() {
-            Ok(names)
-        } else {
-            Err(damaged(bytes.len(), Wrong::Place))
+        match names.lack() {
+            Some(wrong) => Err(damaged(bytes.len(), wrong)),
+            None => Ok(names),
         }
     }
 
-    /// Whether each place of a routine and of a sequence point is in a source file that is there.
+    /// What they lack, if they have not the first bytes of the story, or a source file that a place is in.
+    fn lack(&self) -> Option<Wrong>
+        ensures { IfNone result (length self.now.prefix.items ≡ 64) }
+    {
+        if self.prefix.len() != 64 {
+            Some(Wrong::Prefix)
+        } else if self.has_all_sources() {
+            None
+        } else {
+            Some(Wrong::Place)
+        }
+    }
+
+    /// Whether a place is in a source file that is there, if it is one.
+    fn is_there(&self, place: Option<Place>) -> bool {
+        match place {
+            Some(place) => self.source(place.file).is_some(),
+            None => true,
+        }
+    }
+
+    /// Whether each place is in a source file that is there.
     fn has_all_sources(&self) -> bool {
-        let places = self.routines.iter().filter_map(|routine| routine.place);
-        let points = self.points.iter().map(|point| point.place);
-        places
-            .chain(points)
-            .all(|place| self.source(place.file).is_some())
-    }
-
-    /// Takes what the outermost element has in it.
-    fn take_all(&mut self, alloc: Global, elements: &[Element<'a>]) -> Result<(), ReadError> {
-        for at in 0..elements.len() {
-            if elements[at].depth != 1 {
-                continue;
-            }
-            if let Some(section) = Section::of_first(&elements[at..]) {
-                self.take(alloc, elements[at], &section)?;
-            }
-        }
-        Ok(())
-    }
-
-    /// Takes an element of the outermost one, with what lies in it.
-    fn take(
-        &mut self,
-        alloc: Global,
-        element: Element<'a>,
-        section: &Section<'_, 'a>,
-    ) -> Result<(), ReadError> {
-        let name = name_of(element.tag);
-        if name == b"source".as_slice() {
-            self.take_source(element, section)
-        } else if name == b"routine".as_slice() {
-            self.take_routine(section)
-        } else if name == b"story-file-prefix".as_slice() {
-            self.take_prefix(alloc, element)
-        } else {
-            Ok(())
-        }
-    }
-
-    /// Takes a file of the source.
-    fn take_source(
-        &mut self,
-        element: Element<'a>,
-        section: &Section<'_, 'a>,
-    ) -> Result<(), ReadError> {
-        let (Some(index), Some(given)) = (index_in(element.tag), section.text(b"given-path")) else {
-            return Err(damaged(element.at, Wrong::Source));
-        };
-        if self.source(index).is_some() {
-            return Err(damaged(element.at, Wrong::Source));
-        }
-        let resolved = section.text(b"resolved-path");
-        put(
-            &mut self.sources,
-            Source {
-                index,
-                given,
-                resolved,
-            },
-        )
-    }
-
-    /// Takes a routine, unless the compiler left it out of the story.
-    fn take_routine(&mut self, section: &Section<'_, 'a>) -> Result<(), ReadError> {
-        let (Some(name), Some(address), Some(length)) = (
-            section.text(b"identifier"),
-            section.number(b"address"),
-            section.number(b"byte-count"),
-        ) else {
-            return Err(damaged(section.at, Wrong::Routine));
-        };
-        // routines that are left out have the address 0
-        if address == 0 {
-            return Ok(());
-        }
-        if !self.ends_before(address) {
-            return Err(damaged(section.at, Wrong::Order));
-        }
-        let place = match section.section(b"source-code-location") {
-            Some(place) => match place_of(&place) {
-                Some(place) => Some(place),
-                None => return Err(damaged(place.at, Wrong::Place)),
-            },
-            None => None,
-        };
-        let (first_point, first_local) = (self.points.len(), self.locals.len());
-        let routine = Routine {
-            name,
-            address,
-            length,
-            place,
-            first_point,
-            points: 0,
-            first_local,
-            locals: 0,
-        };
-        self.take_parts(section, &routine)?;
-        let routine = Routine {
-            points: self.points.len().saturating_sub(first_point),
-            locals: self.locals.len().saturating_sub(first_local),
-            ..routine
-        };
-        put(&mut self.routines, routine)
-    }
-
-    /// Whether the last routine ends before an address.
-    fn ends_before(&self, address: u32) -> bool {
-        match self.routines.last() {
-            Some(last) => last.address <= address && address - last.address >= last.length,
-            None => true,
-        }
-    }
-
-    /// Takes the sequence points and the local variables of a routine.
-    fn take_parts(
-        &mut self,
-        section: &Section<'_, 'a>,
-        routine: &Routine<'_>,
-    ) -> Result<(), ReadError> {
-        for at in 0..section.elements.len() {
-            let element = section.elements[at];
-            if element.depth != section.depth {
-                continue;
-            }
-            let Some(part) = Section::of_first(&section.elements[at..]) else {
-                continue;
-            };
-            let name = name_of(element.tag);
-            if name == b"sequence-point".as_slice() {
-                self.take_point(&part, routine)?;
-            } else if name == b"local-variable".as_slice() {
-                self.take_local(&part)?;
-            }
-        }
-        Ok(())
-    }
-
-    /// Takes a sequence point.
-    fn take_point(
-        &mut self,
-        section: &Section<'_, 'a>,
-        routine: &Routine<'_>,
-    ) -> Result<(), ReadError> {
-        let Some(point) = point_in(section) else {
-            return Err(damaged(section.at, Wrong::Point));
-        };
-        let ascends = match self.points.last() {
-            Some(last) => last.address <= point.address,
-            None => true,
-        };
-        if !ascends || !routine.has(point.address) {
-            return Err(damaged(section.at, Wrong::Order));
-        }
-        put(&mut self.points, point)
-    }
-
-    /// Takes a local variable.
-    fn take_local(&mut self, section: &Section<'_, 'a>) -> Result<(), ReadError> {
-        let Some(local) = local_in(section) else {
-            return Err(damaged(section.at, Wrong::Local));
-        };
-        put(&mut self.locals, local)
-    }
-
-    /// Takes the first bytes of the story.
-    fn take_prefix(&mut self, alloc: Global, element: Element<'a>) -> Result<(), ReadError> {
-        match STANDARD.decode(alloc, element.text) {
-            Ok(prefix) => {
-                self.prefix = prefix;
-                Ok(())
-            }
-            Err(DecodeAllocError::OutOfMemory) => Err(ReadError::Memory),
-            Err(_) => Err(damaged(element.at, Wrong::Prefix)),
-        }
+        self.routines
+            .iter()
+            .all(|routine| self.is_there(routine.place))
+            && self
+                .points
+                .iter()
+                .all(|point| self.is_there(Some(point.place)))
+            && self.named.iter().all(|named| self.is_there(named.place))
+            && self.arrays.iter().all(|array| self.is_there(array.place))
     }
 
     /// Whether the file is of a story that begins with these bytes.
@@ -384,9 +268,64 @@ impl<'a> Names<'a> {
     pub fn source(&self, index: u32) -> Option<Source<'a>>
         ensures { result ≡ source_of self.now.sources.items index }
     {
-        self.sources
+        source_of(self.sources.as_slice(), index)
+    }
+
+    /// The routine whose byte address it is.
+    pub fn routine_from(&self, address: u32) -> Option<Routine<'a>>
+        ensures { result ≡ routine_from self.now.routines.items address }
+    {
+        self.routines
             .iter()
             .copied()
-            .find(|source| source.index == index)
+            .find(|routine| routine.address == address)
+    }
+
+    /// The first routine of a name, in the file's bytes.
+    pub fn routine_named(&self, name: &[u8]) -> Option<Routine<'a>>
+        ensures { result ≡ routine_named self.now.routines.items name.now }
+    {
+        self.routines
+            .iter()
+            .copied()
+            .find(|routine| routine.name == name)
+    }
+
+    /// The least byte address of a statement on a line of a source file, by its number: none where no code begins.
+    pub fn address_on(&self, file: u32, line: u32) -> Option<u32>
+        ensures { result ≡ address_on self.now.points.items file line }
+    {
+        match point_on(self.points.as_slice(), file, line) {
+            Some(point) => Some(point.address),
+            None => None,
+        }
+    }
+
+    /// What a value of a kind is called: the first that the source gives, or else the first of the compiler's own.
+    pub fn named(&self, kind: Kind, value: u32) -> Option<Named<'a>>
+        ensures { result ≡ named_of self.now.named.items kind value }
+    {
+        let named = self.named.as_slice();
+        match given_named(named, kind, value) {
+            Some(given) => Some(given),
+            None => first_named(named, kind, value),
+        }
+    }
+
+    /// The first array in which a byte address lies.
+    pub fn array_at(&self, address: u32) -> Option<Array<'a>>
+        ensures { result ≡ array_at self.now.arrays.items address }
+    {
+        self.arrays.iter().copied().find(|array| array.has(address))
+    }
+
+    /// The first array whose byte address it is.
+    pub fn array_from(&self, address: u32) -> Option<Array<'a>>
+        ensures { result ≡ array_from self.now.arrays.items address }
+    {
+        self.arrays
+            .iter()
+            .copied()
+            .find(|array| array.address == address)
     }
 }

@@ -1,5 +1,8 @@
 // The texts of a debugging file.
 
+ghost use Rattle.std.specs.Prelude.{◌≡◌};
+ghost use Rattle.zk_names.specs.Nodes.{digits, number_of};
+
 use std::alloc::{AllocError, Global};
 use std::str;
 
@@ -22,14 +25,22 @@ fn entity_of(text: &[u8]) -> Option<(u8, &[u8])> {
     None
 }
 
-/// Where bytes are no text for XML, if they are none: no UTF-8, or a control character (XML 1.0, section 2.2).
+/// Whether bytes of a text begin with what is no character of XML: a control character, U+FFFE or U+FFFF (XML 1.0,
+/// section 2.2).
+fn begins_with_no_character(text: &[u8]) -> bool {
+    match text {
+        [0xef, 0xbf, 0xbe | 0xbf, ..] => true,
+        [first, ..] => *first < b' ' && !matches!(*first, b'\t' | b'\n' | b'\r'),
+        [] => false,
+    }
+}
+
+/// Where bytes are no text for XML, if they are none: no UTF-8, or no character of XML.
 pub(crate) fn no_text_at(bytes: &[u8]) -> Option<usize> {
     if let Err(error) = str::from_utf8(bytes) {
         return Some(error.valid_up_to());
     }
-    bytes
-        .iter()
-        .position(|byte| *byte < b' ' && !byte.is_ascii_whitespace())
+    (0..bytes.len()).find(|at| begins_with_no_character(&bytes[*at..]))
 }
 
 /// Whether each ampersand of a text begins an entity that XML knows, and no `>` stands in it: Inform writes an entity
@@ -61,10 +72,27 @@ pub fn plain_text(alloc: Global, text: &[u8]) -> Result<String, AllocError> {
     String::from_utf8_lossy(alloc, plain.as_slice())
 }
 
-/// The number that a text is, with spaces around it.
-pub(crate) fn number_in(text: &[u8]) -> Option<u32> {
-    match str::from_utf8(text) {
-        Ok(text) => text.trim().parse::<u32>().ok(),
-        Err(_) => None,
+/// The number that decimal digits are, below 2^32.
+fn digits(text: &[u8]) -> Option<u32>
+    ensures { result ≡ digits text.now }
+{
+    let mut number: u32 = 0;
+    for digit in text {
+        if !digit.is_ascii_digit() {
+            return None;
+        }
+        let next = 10 * u64::from(number) + u64::from(*digit - b'0');
+        if next > u64::from(u32::MAX) {
+            return None;
+        }
+        number = next as u32;
     }
+    if text.is_empty() { None } else { Some(number) }
+}
+
+/// The number that a text is, with white space around it.
+pub(crate) fn number_in(text: &[u8]) -> Option<u32>
+    ensures { result ≡ number_of text.now }
+{
+    digits(text.trim_ascii_start().trim_ascii_end())
 }

@@ -1,5 +1,6 @@
 pub mod Lines
 pub mod Addresses
+pub mod Calls
 pub mod Compilers
 pub mod Counts
 pub mod Findings

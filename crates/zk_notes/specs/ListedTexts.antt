@@ -1,5 +1,5 @@
--- The texts that instructions of a listing print themselves.
-use Rattle.std.specs.Prelude.{ℕ, List, Option, None, Result, Ok, Err, option_map}
+-- The texts of a listing: those that instructions print themselves, and those that lie apart from code.
+use Rattle.std.specs.Prelude.{ℕ, List, Option, Some, None, Result, Ok, Err, option_map}
 use Rattle.std.specs.List.{filter_map}
 use Rattle.zk_code.specs.Reading.{instr_at}
 use Rattle.zk_code.specs.declared.instr.Instr.{Instr}
@@ -15,8 +15,9 @@ text_at a (Err e) = None
 
 abbrev pub text_of : MemoryMap → Fact → Option ℕ
 text_of m (fact.Instruction a) = text_at a (instr_at m a)
+text_of m (fact.Text a) = Some a
 text_of m _ = None
 
--- the addresses of the instructions of a listing that have one
+-- the addresses of the texts of a listing
 abbrev pub texts_in : MemoryMap → List Fact → List ℕ
 texts_in m facts = filter_map (text_of m) facts

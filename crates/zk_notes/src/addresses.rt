@@ -29,12 +29,12 @@ pub(crate) fn address_of(word: &str) -> Option<u32>
     u32::from_str_radix(word, 16).ok()
 }
 
-/// Puts an address behind others, where there is one.
-pub(crate) fn push_found(addresses: &mut Vec<u32>, found: Option<u32>) -> Result<(), AllocError>
-    ensures { OnOk result (addresses.new.items ≡ addresses.old.items ++ option_to_list found) }
+/// Puts an item behind others, where there is one.
+pub(crate) fn push_found<T: Drop>(list: &mut Vec<T>, found: Option<T>) -> Result<(), AllocError>
+    ensures { OnOk result (list.new.items ≡ list.old.items ++ option_to_list found) }
 {
-    if let Some(address) = found {
-        addresses.push(address)?;
+    if let Some(item) = found {
+        list.push(item)?;
     }
     Ok(())
 }

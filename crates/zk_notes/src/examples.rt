@@ -2,7 +2,7 @@
 
 ghost use Rattle.zk_notes.specs.guards.Examples.{AddressesAreRead, CompilersAreKnown, FindingsAreCounted};
 ghost use Rattle.zk_notes.specs.guards.Examples.{FactsAreMarked, FindingsAreExplained, LinesAreMarked, ListsAreRead};
-ghost use Rattle.zk_notes.specs.guards.Examples.{StoriesAreTold};
+ghost use Rattle.zk_notes.specs.guards.Examples.{StoriesAreTold, TextsAreListed};
 
 /// Small listings, fact by fact.
 #[tactic(auto, unfolding(crate::proofs::guards::Opened::examples))]
@@ -15,4 +15,5 @@ pub fn notes_by_example()
     ensures facts_are_marked { FactsAreMarked }
     ensures lines_are_marked { LinesAreMarked }
     ensures compilers_are_known { CompilersAreKnown }
+    ensures texts_are_listed { TextsAreListed }
 {}

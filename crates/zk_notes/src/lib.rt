@@ -2,6 +2,7 @@
 #![tactic(auto)]
 
 mod addresses;
+pub mod calls;
 pub mod counts;
 pub mod cover;
 pub mod examples;
@@ -12,4 +13,4 @@ pub mod lines;
 pub mod listed_texts;
 pub mod missing;
 pub mod picture;
-mod pieces;
+pub mod pieces;

@@ -5,7 +5,7 @@ use std::fmt::Write;
 
 /// A piece of a text.
 #[derive(Clone, Copy, Drop)]
-pub(crate) enum Piece<'a> {
+pub enum Piece<'a> {
     Text(&'a str),
     Number(u64),
     /// A byte address, as five hexadecimal digits at least.
@@ -31,14 +31,14 @@ fn add_piece(out: &mut String, piece: Piece<'_>) -> Result<(), AllocError> {
 /// A text that is put together. It remembers whether memory was short, and `finish` tells that: so what adds to it need
 /// not.
 #[derive(Drop)]
-pub(crate) struct TextBuilder {
+pub struct TextBuilder {
     text: String,
     is_short: bool,
 }
 
 impl TextBuilder {
     /// No text.
-    pub(crate) fn new(alloc: Global) -> TextBuilder {
+    pub fn new(alloc: Global) -> TextBuilder {
         TextBuilder {
             text: String::new(alloc),
             is_short: false,
@@ -46,30 +46,30 @@ impl TextBuilder {
     }
 
     /// Remembers whether memory was short for something.
-    pub(crate) fn note(&mut self, is_short: bool) {
+    pub fn note(&mut self, is_short: bool) {
         self.is_short |= is_short;
     }
 
     /// Adds a text.
-    pub(crate) fn text(&mut self, text: &str) {
+    pub fn text(&mut self, text: &str) {
         let done = self.text.push_str(text);
         self.note(done.is_err());
     }
 
     /// Adds a line.
-    pub(crate) fn line(&mut self, line: &str) {
+    pub fn line(&mut self, line: &str) {
         self.text(line);
         self.text("\n");
     }
 
     /// Adds a character.
-    pub(crate) fn character(&mut self, shown: char) {
+    pub fn character(&mut self, shown: char) {
         let done = self.text.push(shown);
         self.note(done.is_err());
     }
 
     /// Adds pieces, one after the other.
-    pub(crate) fn pieces(&mut self, pieces: &[Piece<'_>]) {
+    pub fn pieces(&mut self, pieces: &[Piece<'_>]) {
         for piece in pieces {
             let done = add_piece(&mut self.text, *piece);
             self.note(done.is_err());
@@ -77,11 +77,16 @@ impl TextBuilder {
     }
 
     /// The text, if memory was never short.
-    pub(crate) fn finish(self) -> Result<Vec<u8>, AllocError> {
+    pub fn finish_text(self) -> Result<String, AllocError> {
         if self.is_short {
             Err(AllocError)
         } else {
-            Ok(self.text.into_bytes())
+            Ok(self.text)
         }
+    }
+
+    /// The bytes of the text, if memory was never short.
+    pub fn finish(self) -> Result<Vec<u8>, AllocError> {
+        Ok(self.finish_text()?.into_bytes())
     }
 }

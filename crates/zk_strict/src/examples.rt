@@ -4,7 +4,8 @@
 ghost use Rattle.zk_strict.specs.guards.Examples.{ArraysInCode, ArraysOfTheFirstOperand, BytesPastTheEnd, CallsInCode};
 ghost use Rattle.zk_strict.specs.guards.Examples.{CallsOfZero, IndicesBelowZero, ObjectsInCode, ObjectsIntoThemselves};
 ghost use Rattle.zk_strict.specs.guards.Examples.{UnknownValues, VariablesInARun, WordsOfTheStack, WordsPastTheEnd};
-ghost use Rattle.zk_strict.specs.guards.Examples.{AddressesHave16Bits, ConstantsInARun};
+ghost use Rattle.zk_strict.specs.guards.Examples.{AddressesHave16Bits, ConstantsInARun, OtherTexts, PackedTexts};
+ghost use Rattle.zk_strict.specs.guards.Examples.{TextsByVariables};
 
 /// Accesses of arrays, by values (Standard, section 15).
 pub fn arrays_by_example()
@@ -34,4 +35,11 @@ pub fn runs_by_example()
     ensures words_of_the_stack { WordsOfTheStack }
     ensures variables_in_a_run { VariablesInARun }
     ensures constants_in_a_run { ConstantsInARun }
+{}
+
+/// Texts that are printed by their addresses (Standard, sections 1.2.3 and 15).
+pub fn texts_by_example()
+    ensures packed_texts { PackedTexts }
+    ensures texts_by_variables { TextsByVariables }
+    ensures other_texts { OtherTexts }
 {}

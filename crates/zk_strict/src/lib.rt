@@ -1,4 +1,4 @@
-// What the Standard lets pass, and an author hardly means.
+// What a run does next: what the Standard lets pass and an author hardly means, and which texts it prints by addresses.
 #![tactic(auto)]
 
 mod arrays;
@@ -6,4 +6,5 @@ pub mod examples;
 pub mod laws;
 pub mod misuse;
 mod stack;
+pub mod texts;
 mod values;

@@ -14,6 +14,7 @@ use Rattle.zk_notes.specs.Addresses.{address_of}
 use Rattle.zk_notes.specs.Compilers.{compiler_of}
 use Rattle.zk_notes.specs.Counts.{capped, is_finding, is_of}
 use Rattle.zk_notes.specs.Findings.{explained}
+use Rattle.zk_notes.specs.ListedTexts.{texts_in}
 use Rattle.zk_notes.specs.Marks.{fact_ran, instruction_of, marked_line, routines_in, summary_of}
 use Rattle.zk_notes.specs.Union.{address_on, is_foreign, is_no_address, story_line, story_of}
 
@@ -118,3 +119,14 @@ CompilersAreKnown =
     × (compiler_of (codes "000000000000000000000000000000000000000000000000000000000000" ++ codes "6.3x") ≡ None)
     × (compiler_of (codes "000000000000000000000000000000000000000000000000000000000000" ++ codes "6336") ≡ None)
     × (compiler_of (codes "00000000000000000000000000000000000000000000000000000000000" ++ codes "6.36") ≡ None)
+
+-- `print` with a text of one word at 0, and `new_line` at 3
+abbrev pub printing : MemoryMap
+printing =
+    record { version = 5; static_base = 0; bytes = 178 ∷ 148 ∷ 165 ∷ 187 ∷ []; file = []; setup = plain_setup 0 }
+
+-- a text stands in an instruction, or apart from code; a routine is none, nor what is not spelled
+abbrev pub TextsAreListed : Type 0
+TextsAreListed =
+    (texts_in printing (fact.Instruction 0 ∷ fact.Instruction 3 ∷ fact.Text 1 ∷ []) ≡ 0 ∷ 1 ∷ [])
+    × (texts_in printing (fact.Routine 0 ∷ fact.Instruction 4 ∷ []) ≡ [])

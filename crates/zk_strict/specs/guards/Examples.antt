@@ -12,6 +12,7 @@ use Rattle.zk_strict.specs.declared.misuse.Extent.{Extent}
 use Rattle.zk_strict.specs.declared.misuse.Misuse.{Misuse}
 use Rattle.zk_strict.specs.declared.misuse.Misuse.TheVariants.{Read, Written, CallOfZero, IntoItself}
 use Rattle.zk_strict.specs.Misuses.{misuse_at, misuse_next, misuse_of}
+use Rattle.zk_strict.specs.Texts.{text_next}
 
 abbrev pub extent : ℕ → ℕ → Extent
 extent address length = record { address = address; length = length }
@@ -197,3 +198,34 @@ ConstantsInARun =
     × (run (0x4e ∷ 1 ∷ 5 ∷ []) (5 ∷ []) [] ≡ Some (IntoItself 5))
     × (run (0x4e ∷ 1 ∷ 5 ∷ []) (6 ∷ []) [] ≡ None)
     × (run (0x8f ∷ 0 ∷ []) [] [] ≡ None)
+
+-- ---- texts that are printed by their addresses (sections 1.2.3 and 15)
+
+-- the text of the instruction at address 0 of a story of a version, as above
+abbrev pub text_in : ℕ → List ℕ → List ℕ → List ℕ → Option ℕ
+text_in version bytes locals words =
+    text_next (working (memory_of version bytes) (routine_with locals words None) []) 0
+
+-- `print_paddr 0x1234`, which is doubled in version 3, and times four and eight in 5 and 8; `print_addr 0x1234`
+abbrev pub PackedTexts : Type 0
+PackedTexts =
+    (text_in 3 (0x8d ∷ 0x12 ∷ 0x34 ∷ []) [] [] ≡ Some 0x2468)
+    × (text_in 5 (0x8d ∷ 0x12 ∷ 0x34 ∷ []) [] [] ≡ Some 0x48d0)
+    × (text_in 8 (0x8d ∷ 0x12 ∷ 0x34 ∷ []) [] [] ≡ Some 0x91a0)
+    × (text_in 5 (0x87 ∷ 0x12 ∷ 0x34 ∷ []) [] [] ≡ Some 0x1234)
+
+-- `print_paddr` of the newest word of the evaluation stack, and of local variable 1; with no word there, it has no text
+abbrev pub TextsByVariables : Type 0
+TextsByVariables =
+    (text_in 5 (0xad ∷ 0 ∷ []) [] (7 ∷ 9 ∷ []) ≡ Some 36)
+    × (text_in 5 (0xad ∷ 1 ∷ []) (5 ∷ []) (9 ∷ []) ≡ Some 20)
+    × (text_in 5 (0xa7 ∷ 0 ∷ []) [] (7 ∷ 9 ∷ []) ≡ Some 9)
+    × (text_in 5 (0xad ∷ 0 ∷ []) [] [] ≡ None)
+
+-- `print_obj`, `print_char` and `ret` have none, and neither has `print_paddr` without its last byte
+abbrev pub OtherTexts : Type 0
+OtherTexts =
+    (text_in 5 (0x9a ∷ 5 ∷ []) [] [] ≡ None)
+    × (text_in 5 (0xe5 ∷ 0x7f ∷ 65 ∷ []) [] [] ≡ None)
+    × (text_in 5 (0x9b ∷ 5 ∷ []) [] [] ≡ None)
+    × (text_in 5 (0x8d ∷ 0x12 ∷ []) [] [] ≡ None)

@@ -1,0 +1,4 @@
+pub mod Ends
+pub mod Faults
+pub mod Objects
+pub mod guards

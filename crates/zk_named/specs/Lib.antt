@@ -1,0 +1,4 @@
+pub mod Meanings
+pub mod SourceLines
+pub mod Words
+pub mod guards
