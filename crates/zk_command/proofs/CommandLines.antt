@@ -212,8 +212,8 @@ no_asked name rows Findings i d k h = other_name name (codes "check") k h
 pub no_play_said : (rows : List Row) → ((path : List ℕ) (o : PlayOptions) → SaysStory rows path
     → SaysOptions rows o → ⊥) → (c : Choice) → Says (codes "play") rows c → ⊥
 no_play_said rows none (Play story options) h = none story.now options h.1 h.2
-no_play_said rows none (Show stories roots options asked) h =
-    no_asked (codes "play") rows asked refl refl refl h.2
+no_play_said rows none (Show stories roots naming options asked) h =
+    no_asked (codes "play") rows asked refl refl refl h.3
 no_play_said rows none (Test paths options) h = other_name (codes "play") (codes "test") refl h.0
 no_play_said rows none (Cover told sources options) h = other_name (codes "play") (codes "cover") refl h.0
 no_play_said rows none (Unpack file out) h = other_name (codes "play") (codes "unpack") refl h.0
@@ -223,8 +223,8 @@ no_play_said rows none (Page story out options) h = other_name (codes "play") (c
 pub no_unpack_said : (rows : List Row) → ((file out : List ℕ) → first_of (codes "FILE") rows ≡ Some file
     → first_of (codes "OUT") rows ≡ Some out → ⊥) → (c : Choice) → Says (codes "unpack") rows c → ⊥
 no_unpack_said rows none (Play story options) h = other_name (codes "unpack") (codes "play") refl h.0
-no_unpack_said rows none (Show stories roots options asked) h =
-    no_asked (codes "unpack") rows asked refl refl refl h.2
+no_unpack_said rows none (Show stories roots naming options asked) h =
+    no_asked (codes "unpack") rows asked refl refl refl h.3
 no_unpack_said rows none (Test paths options) h = other_name (codes "unpack") (codes "test") refl h.0
 no_unpack_said rows none (Cover told sources options) h = other_name (codes "unpack") (codes "cover") refl h.0
 no_unpack_said rows none (Unpack file out) h = none file.now out.now h.1 h.2
@@ -234,8 +234,8 @@ no_unpack_said rows none (Page story out options) h = other_name (codes "unpack"
 pub no_page_said : (rows : List Row) → ((story out : List ℕ) → SaysStory rows story
     → first_of (codes "OUT") rows ≡ Some out → ⊥) → (c : Choice) → Says (codes "page") rows c → ⊥
 no_page_said rows none (Play story options) h = other_name (codes "page") (codes "play") refl h.0
-no_page_said rows none (Show stories roots options asked) h =
-    no_asked (codes "page") rows asked refl refl refl h.2
+no_page_said rows none (Show stories roots naming options asked) h =
+    no_asked (codes "page") rows asked refl refl refl h.3
 no_page_said rows none (Test paths options) h = other_name (codes "page") (codes "test") refl h.0
 no_page_said rows none (Cover told sources options) h = other_name (codes "page") (codes "cover") refl h.0
 no_page_said rows none (Unpack file out) h = other_name (codes "page") (codes "unpack") refl h.0
@@ -253,8 +253,8 @@ no_paths rows paths told is none some same =
 pub no_test_said : (rows : List Row) (paths : List Text) → paths ≡ unwrap_or (all_of (codes "STORY") rows) []
     → length paths ≡ 0 → (c : Choice) → Says (codes "test") rows c → ⊥
 no_test_said rows paths is none (Play story options) h = other_name (codes "test") (codes "play") refl h.0
-no_test_said rows paths is none (Show stories roots options asked) h =
-    no_asked (codes "test") rows asked refl refl refl h.2
+no_test_said rows paths is none (Show stories roots naming options asked) h =
+    no_asked (codes "test") rows asked refl refl refl h.3
 no_test_said rows paths is none (Test told options) h = no_paths rows paths _ is none h.1.0 h.1.1
 no_test_said rows paths is none (Cover told sources options) h = other_name (codes "test") (codes "cover") refl h.0
 no_test_said rows paths is none (Unpack file out) h = other_name (codes "test") (codes "unpack") refl h.0
@@ -264,8 +264,8 @@ no_test_said rows paths is none (Page story out options) h = other_name (codes "
 pub no_cover_said : (rows : List Row) (paths : List Text) → paths ≡ unwrap_or (all_of (codes "STORY") rows) []
     → length paths < 2 → (c : Choice) → Says (codes "cover") rows c → ⊥
 no_cover_said rows paths is few (Play story options) h = other_name (codes "cover") (codes "play") refl h.0
-no_cover_said rows paths is few (Show stories roots options asked) h =
-    no_asked (codes "cover") rows asked refl refl refl h.2
+no_cover_said rows paths is few (Show stories roots naming options asked) h =
+    no_asked (codes "cover") rows asked refl refl refl h.3
 no_cover_said rows paths is few (Test told options) h = other_name (codes "cover") (codes "test") refl h.0
 no_cover_said rows paths is few (Cover told sources options) h =
     let same : length (map (λ s. s.now) told.items) ≡ length paths = ap length (h.1.1 ∙ sym is) in
@@ -277,7 +277,7 @@ no_cover_said rows paths is few (Page story out options) h = other_name (codes "
 pub no_stories : (name : Text) (rows : List Row) (paths : List Text) → IsOtherName name
     → paths ≡ unwrap_or (all_of (codes "STORY") rows) [] → length paths ≡ 0 → (c : Choice) → Says name rows c → ⊥
 no_stories name rows paths other is none (Play story options) h = other_name name (codes "play") other.play h.0
-no_stories name rows paths other is none (Show stories roots options asked) h =
+no_stories name rows paths other is none (Show stories roots naming options asked) h =
     no_paths rows paths _ is none h.0.0 h.0.1
 no_stories name rows paths other is none (Test told options) h = other_name name (codes "test") other.test h.0
 no_stories name rows paths other is none (Cover told sources options) h =
@@ -288,7 +288,7 @@ no_stories name rows paths other is none (Page story out options) h = other_name
 pub no_command : (name : Text) (rows : List Row) → IsOtherName name
     → ((a : Asked) → SaysAsked name rows a → ⊥) → (c : Choice) → Says name rows c → ⊥
 no_command name rows other none (Play story options) h = other_name name (codes "play") other.play h.0
-no_command name rows other none (Show stories roots options asked) h = none asked h.2
+no_command name rows other none (Show stories roots naming options asked) h = none asked h.3
 no_command name rows other none (Test told options) h = other_name name (codes "test") other.test h.0
 no_command name rows other none (Cover told sources options) h = other_name name (codes "cover") other.cover h.0
 no_command name rows other none (Unpack file out) h = other_name name (codes "unpack") other.unpack h.0

@@ -24,14 +24,14 @@ use Rattle.zk_command.specs.declared.settings.TestOptions.{TestOptions}
 use Rattle.zk_command.specs.declared.settings.CoverOptions.{CoverOptions}
 use Rattle.zk_command.specs.declared.settings.Form.{Form}
 use Rattle.zk_command.specs.declared.settings.Form.TheVariants.{Lines, Rows, Json, Graph, Picture}
+use Rattle.zk_command.specs.declared.settings.Naming.{Naming}
 use Rattle.zk_command.specs.declared.settings.Roots.{Roots}
 use Rattle.zk_command.specs.declared.settings.ShowOptions.{ShowOptions}
 use Rattle.zk_command.specs.declared.choice.Choice.{Choice}
 use Rattle.zk_command.specs.declared.choice.Named.{Named as NamedByCommand}
 use Rattle.zk_command.specs.declared.options.CommandOption.{CommandOption}
-use Rattle.zk_command.specs.declared.options.CommandOption.TheVariants.{Number, File, Folder, Folders, Line, Address}
-use Rattle.zk_command.specs.declared.options.CommandOption.TheVariants.{Flag, Path, Story, Stories, Walkthroughs}
-use Rattle.zk_command.specs.declared.options.CommandOption.TheVariants.{Covers}
+use Rattle.zk_command.specs.declared.options.CommandOption.TheVariants.{Number, Value, Values, Flag, Path, Story}
+use Rattle.zk_command.specs.declared.options.CommandOption.TheVariants.{Stories, Walkthroughs, Covers}
 use Rattle.zk_command.specs.declared.options.CommandTable.{CommandTable}
 use Rattle.zk_command.specs.declared.options.NumberOption.{NumberOption}
 use Rattle.zk_command.specs.declared.choice.Choice.TheVariants.{Play, Show, Test, Cover, Unpack, Page}
@@ -88,11 +88,8 @@ number_rule o = number_by o.name.now (option_map (λ s. s.now) o.default)
 -- an option
 abbrev pub option_rule : CommandOption → Rule
 option_rule (Number o) = number_rule o
-option_rule (File name help) = value_option name.now
-option_rule (Folder name help) = value_option name.now
-option_rule (Folders name help) = repeated_option name.now
-option_rule (Line name help) = value_option name.now
-option_rule (Address name help) = repeated_option name.now
+option_rule (Value name value help) = value_option name.now
+option_rule (Values name value help) = repeated_option name.now
 option_rule (Flag name help) = flag name.now
 option_rule (Path name help) = file_argument name.now
 option_rule Story = story_argument
@@ -147,7 +144,8 @@ play_command = with_rules (new_app (codes "play")) (
 
 -- `info [--header] [--map] [--abbreviations] [--dictionary] [--objects] [--tree] [--ifid] [--strings] [--properties]
 -- [--globals]
--- [--alphabets] [--extension] [--notes] [--graph] [--svg] [--rows] [--json] [--recursive] [--files-from FILE] STORY..`
+-- [--alphabets] [--extension] [--names FILE] [--notes] [--graph] [--svg] [--rows] [--json] [--recursive]
+-- [--files-from FILE] STORY..`
 abbrev pub info_command : App
 info_command = with_rules (new_app (codes "info")) (
     flag (codes "header")
@@ -162,6 +160,7 @@ info_command = with_rules (new_app (codes "info")) (
     ∷ flag (codes "globals")
     ∷ flag (codes "alphabets")
     ∷ flag (codes "extension")
+    ∷ value_option (codes "names")
     ∷ flag (codes "notes")
     ∷ flag (codes "graph")
     ∷ flag (codes "svg")
@@ -172,29 +171,38 @@ info_command = with_rules (new_app (codes "info")) (
     ∷ story_arguments
     ∷ [])
 
--- `disasm [--all] [--at ADDRESS].. [--routine ADDRESS].. [--cover FILE] [--notes] [--graph] STORY`
+-- `disasm [--all] [--at ADDRESS].. [--routine ADDRESS].. [--only] [--cover FILE] [--names FILE] [--source FOLDER]..
+-- [--callers] [--notes] [--graph] [--around ROUTINE] [--depth n] STORY`
 abbrev pub disasm_command : App
 disasm_command = with_rules (new_app (codes "disasm")) (
     flag (codes "all")
     ∷ repeated_option (codes "at")
     ∷ repeated_option (codes "routine")
+    ∷ flag (codes "only")
     ∷ value_option (codes "cover")
+    ∷ value_option (codes "names")
+    ∷ repeated_option (codes "source")
+    ∷ flag (codes "callers")
     ∷ flag (codes "notes")
     ∷ flag (codes "graph")
+    ∷ value_option (codes "around")
+    ∷ value_option (codes "depth")
     ∷ story_argument
     ∷ [])
 
--- `check [--notes] [--summary] [--rows] [--json] [--recursive] [--files-from FILE] STORY..`
+-- `check [--names FILE] [--notes] [--summary] [--rows] [--json] [--recursive] [--files-from FILE] STORY..`
 abbrev pub check_command : App
 check_command =
-    with_rules (new_app (codes "check")) (flag (codes "notes") ∷ flag (codes "summary") ∷ flag (codes "rows")
-    ∷ flag (codes "json") ∷ flag (codes "recursive") ∷ value_option (codes "files-from") ∷ story_arguments ∷ [])
+    with_rules (new_app (codes "check")) (value_option (codes "names") ∷ flag (codes "notes")
+    ∷ flag (codes "summary") ∷ flag (codes "rows") ∷ flag (codes "json") ∷ flag (codes "recursive")
+    ∷ value_option (codes "files-from") ∷ story_arguments ∷ [])
 
--- `test [--files-from FILE] [--story FILE] [--bless] [--cover FILE] [--names FILE] PATH..`
+-- `test [--files-from FILE] [--story FILE] [--bless] [--cover FILE] [--names FILE] [--strict] PATH..`
 abbrev pub test_command : App
 test_command =
     with_rules (new_app (codes "test")) (value_option (codes "files-from") ∷ value_option (codes "story")
-    ∷ flag (codes "bless") ∷ value_option (codes "cover") ∷ value_option (codes "names") ∷ path_arguments ∷ [])
+    ∷ flag (codes "bless") ∷ value_option (codes "cover") ∷ value_option (codes "names") ∷ flag (codes "strict")
+    ∷ path_arguments ∷ [])
 
 -- `cover [--names FILE] [--source FOLDER].. [--lcov FILE] [--html FILE] FILE..`
 abbrev pub cover_command : App
@@ -316,6 +324,7 @@ pub record SaysTest (rows : List Row) (o : TestOptions) : Type 0 where
   pub bless : o.bless ≡ flag_said (first_of (codes "bless") rows)
   pub cover : SaysText (λ s. s.now) rows (codes "cover") o.cover
   pub names : SaysText (λ s. s.now) rows (codes "names") o.names
+  pub strict : o.strict ≡ flag_said (first_of (codes "strict") rows)
 
 -- what clap found says the options of a coverage report
 pub record SaysCover (rows : List Row) (o : CoverOptions) : Type 0 where
@@ -383,7 +392,16 @@ show_said rows = record {
   form = form_said rows;
   notes = flag_said (first_of (codes "notes") rows);
   summary = flag_said (first_of (codes "summary") rows);
+  callers = flag_said (first_of (codes "callers") rows);
+  only = flag_said (first_of (codes "only") rows);
 }
+
+-- by which names a listing is shown, and which calls a graph shows
+pub record SaysNaming (rows : List Row) (n : Naming) : Type 0 where
+  pub names : SaysText (λ s. s.now) rows (codes "names") n.names
+  pub sources : AreTexts (λ s. s.now) rows (codes "source") n.sources.items
+  pub around : SaysText (λ s. s.now) rows (codes "around") n.around
+  pub depth : SaysText (λ s. s.now) rows (codes "depth") n.depth
 
 -- what clap found says the options of a page
 pub record SaysPage (rows : List Row) (o : PageOptions) : Type 0 where
@@ -396,9 +414,9 @@ pub record SaysPage (rows : List Row) (o : PageOptions) : Type 0 where
 -- what clap found for a command says a choice
 abbrev pub Says : Text → List Row → Choice → Type 0
 Says name rows (Play story options) = (name ≡ codes "play") × SaysStory rows story.now × SaysOptions rows options
-Says name rows (Show stories roots options asked) =
-    SaysStories rows (map (λ s. s.now) stories.items) × SaysRoots rows roots × SaysAsked name rows asked
-    × (options ≡ show_said rows)
+Says name rows (Show stories roots naming options asked) =
+    SaysStories rows (map (λ s. s.now) stories.items) × SaysRoots rows roots × SaysNaming rows naming
+    × SaysAsked name rows asked × (options ≡ show_said rows)
 Says name rows (Test paths options) =
     (name ≡ codes "test") × SaysStories rows (map (λ s. s.now) paths.items) × SaysTest rows options
 Says name rows (Cover paths sources options) =

@@ -1,11 +1,9 @@
 // What the arguments of the command line ask for.
 
 ghost use Rattle.std.specs.Prelude.{◌≡◌, ◌≤◌, ◌⊎◌, ℕ, List, codes, IfErr, IfNone, IfOk, IfSome, OnErr, SomeIff, Option};
-ghost use Rattle.std.specs.Prelude.{Some, false, [], map, option_map, unwrap_or};
-ghost use Rattle.std.specs.Str.{bytes_eq};
-ghost use Rattle.clap.specs.Words.{App, all_of, app_of, with_rule, first_of, found_of, kind_of, rows_of, rule_of};
+ghost use Rattle.std.specs.Prelude.{Some, false, map, option_map};
+ghost use Rattle.clap.specs.Words.{app_of, first_of, found_of, kind_of, rows_of};
 ghost use Rattle.clap.specs.declared.error.ErrorKind.TheVariants.{OutOfMemory};
-ghost use Rattle.clap.specs.declared.Command.TheViews.{out-Command as fields_of};
 ghost use Rattle.zk_vm.specs.Bounds.{AreInRange};
 ghost use Rattle.zk_vm.specs.declared.limits.Limits.{Limits};
 ghost use Rattle.zk_command.specs.declared.choice.Choice.{Choice};
@@ -13,23 +11,24 @@ ghost use Rattle.zk_command.specs.declared.settings.Asked.{Asked};
 ghost use Rattle.zk_command.specs.declared.settings.Amount.{Amount};
 ghost use Rattle.zk_command.specs.declared.settings.PlayOptions.{PlayOptions};
 ghost use Rattle.zk_command.specs.CommandLine.{AreTexts, Asks, HasLimits, IsAmount, IsNamed, IsNumberIn, IsOtherName};
-ghost use Rattle.zk_command.specs.CommandLine.{SaysCover, SaysPage, SaysTest};
+ghost use Rattle.zk_command.specs.CommandLine.{SaysCover, SaysNaming, SaysPage, SaysTest};
 ghost use Rattle.zk_command.specs.CommandLine.{IsRefusedWith, MaySayAmount, MetSays, Says, SaysAsked, SaysLimits};
 ghost use Rattle.zk_command.specs.CommandLine.{SaysNumber, SaysOptions, SaysRoots, SaysSeed, SaysStory, command_line};
-ghost use Rattle.zk_command.specs.CommandLine.{file_argument, flag_said, form_said, named_option, number_in};
-ghost use Rattle.zk_command.specs.CommandLine.{number_rule, option_rule, section_rule, sections_named, sections_said};
-ghost use Rattle.zk_command.specs.CommandLine.{show_said, story_argument, table_command, usage_status, view_said};
-ghost use Rattle.zk_command.specs.CommandLine.{with_rules, with_tables, word_of};
+ghost use Rattle.zk_command.specs.CommandLine.{flag_said, form_said, number_in};
+ghost use Rattle.zk_command.specs.CommandLine.{sections_named, sections_said};
+ghost use Rattle.zk_command.specs.CommandLine.{show_said, usage_status, view_said};
+ghost use Rattle.zk_command.specs.CommandLine.{word_of};
 
+use crate::command_line::{command_line_of, command_of};
 use crate::options::{
-    COMMANDS, CommandOption, CommandTable, FRAMES, NumberOption, PAGE, PLAY, SEED, STEPS, UNDO,
-    WIDTH, WORDS,
+    COVER, CommandTable, FRAMES, NumberOption, PAGE, PLAY, SEED, STEPS, UNDO, WIDTH, WORDS,
 };
 use crate::settings::{
-    Amount, Asked, CoverOptions, Form, PageOptions, PlayOptions, Roots, ShowOptions, TestOptions,
+    Amount, Asked, CoverOptions, Form, Naming, PageOptions, PlayOptions, Roots, ShowOptions,
+    TestOptions,
 };
 use clap::error::ErrorKind;
-use clap::{Arg, ArgAction, ArgMatches, Command, Error};
+use clap::{ArgMatches, Command, Error};
 use std::alloc::{AllocError, Global};
 use zk_inspect::section::{SECTIONS, Section};
 use zk_mem::memory::ScreenSetup;
@@ -48,6 +47,7 @@ pub enum Choice<'a> {
     Show {
         stories: Vec<&'a str>,
         roots: Roots<'a>,
+        naming: Naming<'a>,
         options: ShowOptions,
         asked: Asked,
     },
@@ -75,167 +75,6 @@ pub enum Choice<'a> {
         out: &'a str,
         options: PageOptions<'a>,
     },
-}
-
-/// An option by its name, as clap has it.
-fn option_named<'a>(alloc: Global, name: &'a str, help: &'a str) -> Arg<'a>
-    ensures rule { rule_of result ≡ named_option name.now }
-    ensures local { result.global ≡ false }
-{
-    Arg::new(alloc, name).long(name).help(help)
-}
-
-/// The path of a file, which has to be given, as clap has it.
-fn path_named<'a>(alloc: Global, name: &'a str, help: &'a str) -> Arg<'a>
-    ensures rule { rule_of result ≡ file_argument name.now }
-    ensures local { result.global ≡ false }
-{
-    Arg::new(alloc, name).required(true).help(help)
-}
-
-/// An option with a number, as clap has it.
-fn number_option_of<'a>(alloc: Global, number: NumberOption) -> Arg<'a>
-    ensures rule { rule_of result ≡ number_rule number }
-    ensures local { result.global ≡ false }
-{
-    let arg = option_named(alloc, number.name, number.help).value_name("n");
-    match number.default {
-        Some(default) => arg.default_value(default),
-        None => arg,
-    }
-}
-
-/// The path of the story.
-fn story_argument_of<'a>(alloc: Global) -> Arg<'a>
-    ensures rule { rule_of result ≡ story_argument }
-    ensures local { result.global ≡ false }
-{
-    Arg::new(alloc, "STORY")
-        .required(true)
-        .help("The story's file, of version 3, 4, 5 or 8")
-}
-
-/// An option, or a path, as clap has it.
-fn option_of<'a>(alloc: Global, option: CommandOption) -> Arg<'a>
-    ensures rule { rule_of result ≡ option_rule option }
-    ensures local { result.global ≡ false }
-{
-    match option {
-        CommandOption::Number(number) => number_option_of(alloc, number),
-        CommandOption::File { name, help } => option_named(alloc, name, help).value_name("FILE"),
-        CommandOption::Folder { name, help } => {
-            option_named(alloc, name, help).value_name("FOLDER")
-        }
-        CommandOption::Folders { name, help } => option_named(alloc, name, help)
-            .action(ArgAction::Append)
-            .value_name("FOLDER"),
-        CommandOption::Line { name, help } => option_named(alloc, name, help).value_name("TEXT"),
-        CommandOption::Address { name, help } => option_named(alloc, name, help)
-            .action(ArgAction::Append)
-            .value_name("ADDRESS"),
-        CommandOption::Flag { name, help } => {
-            option_named(alloc, name, help).action(ArgAction::SetTrue)
-        }
-        CommandOption::Path { name, help } => path_named(alloc, name, help),
-        CommandOption::Story => story_argument_of(alloc),
-        CommandOption::Stories => story_argument_of(alloc).action(ArgAction::Append),
-        CommandOption::Walkthroughs => {
-            let help = "A walkthrough's file, or a folder of them";
-            path_named(alloc, "STORY", help)
-                .action(ArgAction::Append)
-                .value_name("PATH")
-        }
-        CommandOption::Covers => {
-            let help = "Coverage files, and then the story's file";
-            path_named(alloc, "STORY", help)
-                .action(ArgAction::Append)
-                .value_name("FILE")
-        }
-    }
-}
-
-/// A command with an argument as well. Arguments are made and added one by one, so that none waits where there is no
-/// memory for another.
-fn with_arg<'a>(command: Command<'a>, arg: Arg<'a>) -> Result<Command<'a>, AllocError>
-    requires local { (fields_of command).has_globals ≡ false }
-    requires arg_local { arg.global ≡ false }
-    ensures shape { IfOk result
-        (λ c. app_of c ≡ with_rule (app_of command.entry) (rule_of arg.entry)) }
-    ensures local { IfOk result (λ c. (fields_of c).has_globals ≡ false) }
-{
-    command.arg(arg)
-}
-
-/// The flag of a section, as clap has it.
-fn section_option_of<'a>(alloc: Global, section: Section) -> Arg<'a>
-    ensures rule { rule_of result ≡ section_rule section }
-    ensures local { result.global ≡ false }
-{
-    let (name, help): (&'a str, &'a str) = (section.name(), section.help());
-    option_named(alloc, name, help).action(ArgAction::SetTrue)
-}
-
-/// A command with the flags of sections as well.
-fn with_sections<'a>(
-    alloc: Global,
-    command: Command<'a>,
-    sections: &[Section],
-) -> Result<Command<'a>, AllocError>
-    requires { (fields_of command).has_globals ≡ false }
-    ensures shape { IfOk result
-        (λ c. app_of c ≡ with_rules (app_of command.entry) (map section_rule sections.now)) }
-    ensures local { IfOk result (λ c. (fields_of c).has_globals ≡ false) }
-{
-    let mut command = command;
-    for section in sections {
-        command = with_arg(command, section_option_of(alloc, *section))?;
-    }
-    Ok(command)
-}
-
-/// A command with its options and paths.
-fn command_of<'a>(alloc: Global, table: CommandTable) -> Result<Command<'a>, AllocError>
-    ensures shape { IfOk result (λ c. app_of c ≡ table_command table) }
-    ensures local { IfOk result (λ c. (fields_of c).has_globals ≡ false) }
-{
-    let command = Command::new(alloc, table.name)
-        .about(table.about)
-        .after_help(table.example);
-    let mut command = with_sections(alloc, command, table.sections)?;
-    for option in table.options {
-        command = with_arg(command, option_of(alloc, *option))?;
-    }
-    Ok(command)
-}
-
-/// A command line with commands as well. Commands are made and added one by one, so that none waits where there is no
-/// memory for another.
-fn with_commands<'a>(
-    alloc: Global,
-    line: Command<'a>,
-    tables: &[CommandTable],
-) -> Result<Command<'a>, AllocError>
-    ensures { IfOk result (λ c. (a : App) → app_of line.entry ≡ a
-        → app_of c ≡ with_tables a tables.now) }
-{
-    let mut line = line;
-    for table in tables {
-        let command = command_of(alloc, *table)?;
-        line = line.subcommand(command)?;
-    }
-    Ok(line)
-}
-
-/// zkit's command line.
-fn command_line_of<'a>(alloc: Global) -> Result<Command<'a>, AllocError>
-    ensures { IfOk result (λ c. app_of c ≡ command_line) }
-{
-    let line = Command::new(alloc, "zkit")
-        .about("Plays, lists and checks Z-machine stories")
-        .version("0.1.0")
-        .after_help("Example: zkit play story.z5")
-        .subcommand_required(true);
-    with_commands(alloc, line, &COMMANDS)
 }
 
 /// The number that an argument says, if it lies in a range.
@@ -274,17 +113,31 @@ fn usage_error(command: &mut Command<'_>, kind: ErrorKind, text: &str) -> Error
     }
 }
 
-/// An error of an option of `play`, with that command's usage.
+/// An error of the arguments of a command, with its usage, by how it is called.
+fn command_error(
+    alloc: Global,
+    table: CommandTable,
+    called: &str,
+    kind: ErrorKind,
+    text: &str,
+) -> Error
+    requires { 1 ≤ usage_status kind }
+    ensures { 1 ≤ usage_status (kind_of result) }
+{
+    match command_of(alloc, table) {
+        Err(error) => Error::from(error),
+        Ok(command) => match command.bin_name(called) {
+            Err(error) => Error::from(error),
+            Ok(mut command) => usage_error(&mut command, kind, text),
+        },
+    }
+}
+
+/// An error of an option of `play`.
 fn option_error(alloc: Global, text: &str) -> Error
     ensures { 1 ≤ usage_status (kind_of result) }
 {
-    match command_of(alloc, PLAY) {
-        Err(error) => Error::from(error),
-        Ok(command) => match command.bin_name("zkit play") {
-            Err(error) => Error::from(error),
-            Ok(mut command) => usage_error(&mut command, ErrorKind::ValueValidation, text),
-        },
-    }
+    command_error(alloc, PLAY, "zkit play", ErrorKind::ValueValidation, text)
 }
 
 /// The error of an option that is no number in its range.
@@ -611,6 +464,21 @@ fn show_options_of(found: &ArgMatches<'_>) -> ShowOptions
         form: form_of(found),
         notes: has_flag(found, "notes"),
         summary: has_flag(found, "summary"),
+        callers: has_flag(found, "callers"),
+        only: has_flag(found, "only"),
+    }
+}
+
+/// By which names a listing is shown, with the folders of the source.
+fn naming_of<'a>(found: &ArgMatches<'a>, sources: Vec<&'a str>) -> Naming<'a>
+    requires { AreTexts (λ s. s.now) (rows_of (found_of found.now)) (codes "source") sources.items }
+    ensures { SaysNaming (rows_of (found_of found.now)) result }
+{
+    Naming {
+        names: text_of(found, "names"),
+        sources,
+        around: text_of(found, "around"),
+        depth: text_of(found, "depth"),
     }
 }
 
@@ -642,9 +510,11 @@ fn choose_listing<'a>(
     match asked_of(name, found, named.sections) {
         Some(asked) if !named.paths.is_empty() => {
             let options = show_options_of(found);
+            let naming = naming_of(found, named.sources);
             Ok(Choice::Show {
                 stories: named.paths,
                 roots: named.roots,
+                naming,
                 options,
                 asked,
             })
@@ -670,6 +540,7 @@ fn test_options_of<'a>(found: &ArgMatches<'a>) -> TestOptions<'a>
         bless: has_flag(found, "bless"),
         cover: text_of(found, "cover"),
         names: text_of(found, "names"),
+        strict: has_flag(found, "strict"),
     }
 }
 
@@ -709,7 +580,7 @@ fn cover_options_of<'a>(found: &ArgMatches<'a>) -> CoverOptions<'a>
 
 /// What `cover` asks for, by what clap found for it, and what it names.
 fn choose_cover<'a>(
-    command: &mut Command<'_>,
+    alloc: Global,
     found: &ArgMatches<'a>,
     named: Named<'a>,
 ) -> Result<Choice<'a>, Error>
@@ -722,7 +593,8 @@ fn choose_cover<'a>(
 {
     if named.paths.len() < 2 {
         let text = "the paths of a coverage file and of its story are needed";
-        return Err(usage_error(command, ErrorKind::MissingRequiredArgument, text));
+        let kind = ErrorKind::MissingRequiredArgument;
+        return Err(command_error(alloc, COVER, "zkit cover", kind, text));
     }
     Ok(Choice::Cover {
         paths: named.paths,
@@ -755,7 +627,7 @@ fn choose_by<'a>(
     } else if name == "test" {
         choose_test(command, found, named)
     } else if name == "cover" {
-        choose_cover(command, found, named)
+        choose_cover(alloc, found, named)
     } else {
         choose_listing(command, name, found, named)
     }

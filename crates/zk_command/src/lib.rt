@@ -3,6 +3,7 @@
 
 pub mod arguments;
 pub mod choice;
+mod command_line;
 pub mod manner;
 mod options;
 pub mod settings;

@@ -20,29 +20,16 @@ pub(crate) struct NumberOption {
 pub(crate) enum CommandOption {
     /// With a number.
     Number(NumberOption),
-    /// With a file's path, or not at all.
-    File {
+    /// With a text, which help calls so, or not at all.
+    Value {
         name: &'static str,
+        value: &'static str,
         help: &'static str,
     },
-    /// With a folder's path, or not at all.
-    Folder {
+    /// With a text, which help calls so, as often as it is given.
+    Values {
         name: &'static str,
-        help: &'static str,
-    },
-    /// With a folder's path, as often as it is given.
-    Folders {
-        name: &'static str,
-        help: &'static str,
-    },
-    /// With a text, or not at all.
-    Line {
-        name: &'static str,
-        help: &'static str,
-    },
-    /// With an address, as often as it is given.
-    Address {
-        name: &'static str,
+        value: &'static str,
         help: &'static str,
     },
     /// Without a value.
@@ -121,9 +108,10 @@ pub(crate) const WIDTH: NumberOption =
 pub(crate) const PAGE: NumberOption =
     number!("page", None, 2 to 1000, "Pauses after this many lines at a terminal", or "auto" "fits its height");
 
-const NAMES: CommandOption = CommandOption::File {
+const NAMES: CommandOption = CommandOption::Value {
     name: "names",
-    help: "Names routines and source lines by this debugging file, which `inform6 -k` writes",
+    value: "FILE",
+    help: "Takes names and lines of the source from this debugging file, which `inform6 -k` writes",
 };
 
 /// The options of `play`.
@@ -133,16 +121,19 @@ const PLAY_OPTIONS: [CommandOption; 19] = [
     CommandOption::Number(UNDO),
     CommandOption::Number(STEPS),
     CommandOption::Number(SEED),
-    CommandOption::File {
+    CommandOption::Value {
         name: "save",
+        value: "FILE",
         help: "Saves to and restores from this file, which each save overwrites",
     },
-    CommandOption::Folder {
+    CommandOption::Value {
         name: "saves",
+        value: "FOLDER",
         help: "Keeps saved games in this folder, and asks for a name each time",
     },
-    CommandOption::File {
+    CommandOption::Value {
         name: "script",
+        value: "FILE",
         help: "Writes the story's transcript to this file, emptied first",
     },
     CommandOption::Flag {
@@ -163,16 +154,18 @@ const PLAY_OPTIONS: [CommandOption; 19] = [
         name: "echo",
         help: "Repeats each line of input, for input from a pipe",
     },
-    CommandOption::File {
+    CommandOption::Value {
         name: "record",
+        value: "FILE",
         help: "Records the commands to this file as a walkthrough, emptied first",
     },
     CommandOption::Flag {
         name: "calls",
         help: "Prints the call stack after a fault or limit",
     },
-    CommandOption::File {
+    CommandOption::Value {
         name: "cover",
+        value: "FILE",
         help: "Adds the addresses of executed instructions to this coverage file",
     },
     NAMES,
@@ -217,13 +210,15 @@ const CALL_GRAPH: CommandOption = CommandOption::Flag {
     help: "Prints the call graph, for Graphviz",
 };
 
-const FILES_FROM: CommandOption = CommandOption::File {
+const FILES_FROM: CommandOption = CommandOption::Value {
     name: "files-from",
+    value: "FILE",
     help: "Reads paths from this file, or from standard input for -, separated by new lines or zero bytes",
 };
 
 /// The options of `info`, beside those of sections.
-const INFO_OPTIONS: [CommandOption; 8] = [
+const INFO_OPTIONS: [CommandOption; 9] = [
+    NAMES,
     NOTES,
     OBJECT_GRAPH,
     CommandOption::Flag {
@@ -246,25 +241,52 @@ const INFO: CommandTable = CommandTable {
 };
 
 /// The options of `disasm`.
-const DISASM_OPTIONS: [CommandOption; 7] = [
+const DISASM_OPTIONS: [CommandOption; 13] = [
     CommandOption::Flag {
         name: "all",
         help: "Also lists unreached routines",
     },
-    CommandOption::Address {
+    CommandOption::Values {
         name: "at",
-        help: "Also disassembles from the instruction at this byte address",
+        value: "ADDRESS",
+        help: "Also disassembles from the instruction at this byte address; with --names, at this FILE:LINE",
     },
-    CommandOption::Address {
+    CommandOption::Values {
         name: "routine",
-        help: "Also disassembles the routine at this byte address",
+        value: "ADDRESS",
+        help: "Also disassembles the routine at this byte address; with --names, of this name",
     },
-    CommandOption::File {
+    CommandOption::Flag {
+        name: "only",
+        help: "Lists only the routines that --routine names, or that have an instruction of --at",
+    },
+    CommandOption::Value {
         name: "cover",
+        value: "FILE",
         help: "Also disassembles from the addresses in this coverage file, and marks them",
+    },
+    NAMES,
+    CommandOption::Values {
+        name: "source",
+        value: "FOLDER",
+        help: "Shows the lines of the source, from the files in this folder; needs --names",
+    },
+    CommandOption::Flag {
+        name: "callers",
+        help: "Heads each routine with the instructions that call it",
     },
     NOTES,
     CALL_GRAPH,
+    CommandOption::Value {
+        name: "around",
+        value: "ROUTINE",
+        help: "With --graph, draws only this routine, what calls it and what it calls",
+    },
+    CommandOption::Value {
+        name: "depth",
+        value: "n",
+        help: "How many calls away --around goes, 1 to 99; without this option 1",
+    },
     CommandOption::Story,
 ];
 
@@ -277,7 +299,8 @@ const DISASM: CommandTable = CommandTable {
 };
 
 /// The options of `check`.
-const CHECK_OPTIONS: [CommandOption; 7] = [
+const CHECK_OPTIONS: [CommandOption; 8] = [
+    NAMES,
     NOTES,
     CommandOption::Flag {
         name: "summary",
@@ -307,21 +330,27 @@ const CHECK: CommandTable = CommandTable {
 };
 
 /// The options of `test`.
-const TEST_OPTIONS: [CommandOption; 6] = [
+const TEST_OPTIONS: [CommandOption; 7] = [
     FILES_FROM,
-    CommandOption::File {
+    CommandOption::Value {
         name: "story",
+        value: "FILE",
         help: "Default story, for walkthroughs that name none",
     },
     CommandOption::Flag {
         name: "bless",
         help: "Writes the expected transcripts instead of comparing them",
     },
-    CommandOption::File {
+    CommandOption::Value {
         name: "cover",
+        value: "FILE",
         help: "Adds the addresses of executed instructions to this coverage file",
     },
     NAMES,
+    CommandOption::Flag {
+        name: "strict",
+        help: "Plays once more, slowly, and fails at accesses outside arrays and other misuses",
+    },
     CommandOption::Walkthroughs,
 ];
 
@@ -336,22 +365,25 @@ const TEST: CommandTable = CommandTable {
 /// The options of `cover`, and its paths.
 const COVER_OPTIONS: [CommandOption; 5] = [
     NAMES,
-    CommandOption::Folders {
+    CommandOption::Values {
         name: "source",
+        value: "FOLDER",
         help: "Looks for the files of the source in this folder",
     },
-    CommandOption::File {
+    CommandOption::Value {
         name: "lcov",
+        value: "FILE",
         help: "Writes the coverage to this file, for lcov",
     },
-    CommandOption::File {
+    CommandOption::Value {
         name: "html",
+        value: "FILE",
         help: "Writes the coverage to this file, as a page for browsers",
     },
     CommandOption::Covers,
 ];
 
-const COVER: CommandTable = CommandTable {
+pub(crate) const COVER: CommandTable = CommandTable {
     name: "cover",
     about: "Tells what plays have run, by coverage files",
     example: "Example: zkit cover --names gameinfo.dbg ran.txt story.z5",
@@ -381,24 +413,29 @@ const UNPACK: CommandTable = CommandTable {
 
 /// The options of `page`, and its paths.
 const PAGE_OPTIONS: [CommandOption; 7] = [
-    CommandOption::Line {
+    CommandOption::Value {
         name: "title",
+        value: "TEXT",
         help: "The story's title",
     },
-    CommandOption::Line {
+    CommandOption::Value {
         name: "author",
+        value: "TEXT",
         help: "Who wrote the story",
     },
-    CommandOption::File {
+    CommandOption::Value {
         name: "blurb",
+        value: "FILE",
         help: "Shows the text of this file before the story begins",
     },
-    CommandOption::File {
+    CommandOption::Value {
         name: "cover",
+        value: "FILE",
         help: "Shows this picture, PNG or JPEG, before the story begins",
     },
-    CommandOption::File {
+    CommandOption::Value {
         name: "walkthrough",
+        value: "FILE",
         help: "Offers to play the commands of this file",
     },
     CommandOption::Story,

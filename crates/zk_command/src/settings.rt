@@ -51,6 +51,10 @@ pub struct ShowOptions {
     pub notes: bool,
     /// Whether the findings of all stories are counted after them.
     pub summary: bool,
+    /// Whether each routine is headed with the places that it is called from.
+    pub callers: bool,
+    /// Whether nothing is listed but what is named.
+    pub only: bool,
 }
 
 /// Where code is looked for beside the first instruction.
@@ -62,6 +66,19 @@ pub struct Roots<'a> {
     pub routines: Vec<&'a str>,
     /// The file with the addresses of instructions that ran.
     pub cover: Option<&'a str>,
+}
+
+/// By which names a listing is shown, and which calls a graph shows.
+#[derive(Drop)]
+pub struct Naming<'a> {
+    /// The compiler's debugging file.
+    pub names: Option<&'a str>,
+    /// The folders in which the source is looked for.
+    pub sources: Vec<&'a str>,
+    /// The routine whose calls are shown, by its address or its name.
+    pub around: Option<&'a str>,
+    /// How many calls away from it, as a text.
+    pub depth: Option<&'a str>,
 }
 
 /// A number of an option.
@@ -117,6 +134,8 @@ pub struct TestOptions<'a> {
     pub cover: Option<&'a str>,
     /// The compiler's debugging file, by which calls are told.
     pub names: Option<&'a str>,
+    /// Whether a test fails too by what the Standard lets pass and an author hardly means.
+    pub strict: bool,
 }
 
 /// What the options of `cover` say.

@@ -6,7 +6,7 @@ pub mod examples;
 pub mod fact;
 pub mod laws;
 pub mod listing;
-mod objects;
+pub mod objects;
 pub mod plain_text;
 pub mod reach;
 pub mod section;

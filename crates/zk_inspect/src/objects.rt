@@ -1,4 +1,4 @@
-// The objects that are listed.
+// The objects of a story.
 
 ghost use Rattle.std.specs.Prelude.{◌≡◌, ◌≤◌, ◌<◌, ◌↔◌, ◌+◌, ℕ, Ok, Err, IfOk, IsOk, OnOk};
 ghost use Rattle.zk_tables.specs.Properties.{table_of};
@@ -30,9 +30,9 @@ fn lower_table(memory: &Memory, object: u16, lowest: u32) -> u32
     }
 }
 
-/// How many objects are listed: they are counted from 1 on, up to the first whose entry does not lie in data, or does
+/// How many objects a story has: they are counted from 1 on, up to the first whose entry does not lie in data, or does
 /// not begin below the property table of each object before it. There are none where the header names no object table.
-pub(crate) fn count_objects(memory: &Memory) -> u16
+pub fn count_objects(memory: &Memory) -> u16
     ensures listed { (o entry : ℕ)
         → IsListed memory.now o entry ↔ ((o ≤ result) × (entry_of memory.now o ≡ Ok entry)) }
     ensures whole { (o : ℕ) → 0 < o → o ≤ result → IsOk (entry_of memory.now o) }

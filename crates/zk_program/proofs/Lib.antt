@@ -1,3 +1,4 @@
+pub mod Stories
 pub mod Plays
 pub mod Readings
 pub mod Reports

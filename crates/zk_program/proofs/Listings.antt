@@ -30,21 +30,27 @@ use Rattle.zk_program.specs.declared.exit.Exit.{Exit}
 use Rattle.zk_program.specs.declared.exit.Exit.TheVariants.{Unread, Refused, Stopped, Found}
 use Rattle.zk_program.specs.declared.listing.Listing.{Listing}
 
--- a file that was refused ends a listing, with that said
+-- a file that was refused, or for which there was no memory, ends a listing, with that said
 said : (listing : Listing) (path file : Option (List ℕ)) (old new : Device) (exit : Exit)
-    → EndsBy file (Unit {0}) (λ story ended. ⊥) exit → SaysWhy path old new exit
+    → EndsBy file (Unit {0}) (λ story ended. ended ≡ Stopped Memory) exit → SaysWhy path old new exit
     → EndsListing listing path file old new exit
 said listing path file old new (Unread e) h says = says
 said listing path file old new (Refused e) h says = (h.0, h.1, h.2, says)
-said listing path file old new (Stopped stop) h says = absurd h.3
-said listing path file old new Found h says = absurd h.3
+said listing path file old new (Stopped Memory) h says = (h.0, h.1, h.2, says.failed)
+said listing path file old new (Stopped Quit) h says = let e = h.3 in absurd cc
+said listing path file old new (Stopped Write) h says = let e = h.3 in absurd cc
+said listing path file old new (Stopped EndOfInput) h says = let e = h.3 in absurd cc
+said listing path file old new (Stopped Read) h says = let e = h.3 in absurd cc
+said listing path file old new (Stopped (FaultAt a f)) h says = let e = h.3 in absurd cc
+said listing path file old new (Stopped (LimitAt a l)) h says = let e = h.3 in absurd cc
+said listing path file old new Found h says = let e = h.3 in absurd cc
 
 not_alone : (path file : Option (List ℕ)) → HasPath path → IsStoryAlone path file
 not_alone None file h = absurd h
 not_alone (Some path) file h = tt
 
 pub left_out : (listing : Listing) (path file : Option (List ℕ)) (old new : Device) (refused exit : Exit)
-    → EndsBy file (Unit {0}) (λ story ended. ⊥) refused → IsLeftOut path refused old new exit
+    → EndsBy file (Unit {0}) (λ story ended. ended ≡ Stopped Memory) refused → IsLeftOut path refused old new exit
     → EndsListing listing path file old new exit
 left_out listing path file old new refused exit h (inl is) = rw is.0 (said listing path file old new refused h is.1)
 left_out listing path file old new refused exit h (inr is) = rw is.0 (is.1, not_alone path file is.2)

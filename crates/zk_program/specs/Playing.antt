@@ -119,7 +119,7 @@ IsStarted file settings (Ok machine) = (story : List ℕ) × AreRead file story 
     × (machine ≡ begun story settings.seed settings.limits settings.view)
 IsStarted file settings (Err exit) = EndsBy file (Unit {0}) (λ story ended. ended ≡ Stopped Memory) exit
 
--- a reader's story was opened, or it is refused or can't be read
+-- a reader's story was opened, or there was no memory for it; or it is refused or can't be read
 abbrev pub IsOpened : Option (List ℕ) → Result (List ℕ) Exit → Type 0
 IsOpened file (Ok story) = AreRead file story × (refusal story ≡ None)
-IsOpened file (Err exit) = EndsBy file (Unit {0}) (λ story ended. ⊥) exit
+IsOpened file (Err exit) = EndsBy file (Unit {0}) (λ story ended. ended ≡ Stopped Memory) exit

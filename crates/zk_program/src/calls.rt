@@ -3,8 +3,8 @@
 ghost use Rattle.std.specs.Prelude.{◌≡◌};
 ghost use Rattle.zk_program.specs.Calls.{is_told};
 
-use crate::names::{locals_text as named_locals_text, source_text};
 use std::alloc::{AllocError, Global};
+use zk_named::places::{locals_text as named_locals_text, source_text};
 use zk_names::names::Names;
 use zk_vm::machine::Machine;
 use zk_vm::machine::calls::OpenRoutine;

@@ -1,8 +1,5 @@
 // What plays have run of a story, told by lines of its source.
 
-ghost use Rattle.std.specs.Prelude.{◌≡◌, ◌↔◌, IsTrue};
-ghost use Rattle.zk_program.specs.Sources.{IsEnding, IsSourceName};
-
 use crate::about::About;
 use crate::cover::{Covered, covered_in};
 use crate::exit::Exit;
@@ -10,21 +7,20 @@ use crate::facts::{Found, Look, look_into};
 use crate::listing::{CodeListing, Listing};
 use crate::names::{names_of, read_names, see_named};
 use crate::play::screen_of;
-use crate::told::{out_of_memory, tell_exit, tell_last_line, tell_unread};
+use crate::sources::{SourceFile, name_in, source_files};
+use crate::told::{out_of_memory, tell_exit, tell_last_line};
 use std::alloc::{AllocError, Global};
-use std::io;
 use zk_command::settings::CoverOptions;
 use zk_coverage::html::page;
 use zk_coverage::lcov::trace;
 use zk_coverage::ran::{Ran, Text};
 use zk_coverage::summary::summary;
 use zk_facts::outcome::Facts;
+use zk_inspect::section::Section;
 use zk_mem::memory::Memory;
-use zk_names::names::{Names, Source};
-use zk_names::text::plain_text;
+use zk_names::names::Names;
 use zk_notes::cover::{instructions_in, routines_in, summary as listed_summary};
 use zk_notes::listed_texts::{ListedText, texts_in};
-use zk_system::files::{MOST_TEXT, files_of, read_whole};
 use zk_system::keeping::{Kept, keep};
 use zk_system::same_file::is_same_file;
 use zk_system::shown::Shown;
@@ -38,15 +34,9 @@ struct Listed {
     instructions: Vec<u32>,
     routines: Vec<u32>,
     texts: Vec<ListedText>,
+    strings: Vec<ListedText>,
     /// The line that says how much of the listing ran.
     last: Vec<u8>,
-}
-
-/// A file of the source, where it was found.
-#[derive(Drop)]
-struct SourceFile {
-    path: String,
-    text: Option<Vec<u8>>,
 }
 
 /// What coverage files have together, ascending, each address once.
@@ -72,8 +62,13 @@ fn read_covers<'a>(rt: &HostRuntime, paths: &[&'a str]) -> Result<Vec<Covered<'a
     Ok(files)
 }
 
-/// What ran of a listing.
-fn listed_by(alloc: Global, facts: &Facts<'_>, covered: Vec<u32>) -> Result<Listed, AllocError> {
+/// What ran of a listing, with the texts that lie apart from code.
+fn listed_by(
+    alloc: Global,
+    facts: &Facts<'_>,
+    strings: Vec<ListedText>,
+    covered: Vec<u32>,
+) -> Result<Listed, AllocError> {
     let instructions = instructions_in(alloc, facts)?;
     let routines = routines_in(alloc, facts.list)?;
     let texts = texts_in(alloc, facts)?;
@@ -83,115 +78,9 @@ fn listed_by(alloc: Global, facts: &Facts<'_>, covered: Vec<u32>) -> Result<List
         instructions,
         routines,
         texts,
+        strings,
         last,
     })
-}
-
-/// The name of the file at a path.
-fn name_in(path: &str) -> &str {
-    match path.rsplit_once('/') {
-        Some((_, name)) => name,
-        None => path,
-    }
-}
-
-/// Whether a text is what a source file's name may have behind the name that is given.
-fn is_ending(ending: &[u8]) -> bool
-    ensures { IsTrue result ↔ IsEnding ending.now }
-{
-    ending.is_empty() || ending.eq_ignore_ascii_case(b".h") || ending.eq_ignore_ascii_case(b".inf")
-}
-
-/// Whether a file's name is the one that the source gives, with an ending or without one, in any case of letters.
-fn is_source_name(name: &[u8], given: &[u8]) -> bool
-    ensures { IsTrue result ↔ IsSourceName name.now given.now }
-{
-    match name.split_at_checked(given.len()) {
-        Some((stem, ending)) => stem.eq_ignore_ascii_case(given) && is_ending(ending),
-        None => false,
-    }
-}
-
-/// Whether a path ends with one that the source gives, after a slash or from its beginning, with an ending or without
-/// one.
-fn is_source_path(path: &[u8], given: &[u8]) -> bool {
-    for ending in [0usize, 2, 4] {
-        let Some(start) = path.len().checked_sub(given.len().saturating_add(ending)) else {
-            continue;
-        };
-        let begins = match start.checked_sub(1) {
-            Some(before) => path.get(before) == Some(&b'/'),
-            None => true,
-        };
-        if begins && is_source_name(path.get(start..).unwrap_or(&[]), given) {
-            return true;
-        }
-    }
-    false
-}
-
-/// The first of paths that ends with a path that the source gives, or else the first one of a file of that name.
-fn path_of<'a>(paths: &'a [String], given: &str) -> Option<&'a str> {
-    for wanted in [given, name_in(given)] {
-        for path in paths {
-            if is_source_path(path.as_bytes(), wanted.as_bytes()) {
-                return Some(path.as_str());
-            }
-        }
-    }
-    None
-}
-
-/// Bytes as a text: those of a source in Latin-1, where they are no UTF-8.
-fn text_of(alloc: Global, bytes: Vec<u8>) -> Result<Vec<u8>, AllocError> {
-    if std::str::from_utf8(bytes.as_slice()).is_ok() {
-        return Ok(bytes);
-    }
-    let mut text = String::new(alloc);
-    for byte in &bytes {
-        text.push(char::from(*byte))?;
-    }
-    Ok(text.into_bytes())
-}
-
-/// The path among several at which a source file stands, or else the one that the source gives.
-fn source_file(
-    rt: &HostRuntime,
-    paths: &[String],
-    source: &Source<'_>,
-) -> Result<SourceFile, AllocError> {
-    let given = plain_text(rt.alloc(), source.given)?;
-    let Some(path) = path_of(paths, given.as_str()) else {
-        return Ok(SourceFile {
-            path: given,
-            text: None,
-        });
-    };
-    let text = match read_whole(rt, path, MOST_TEXT) {
-        Ok(bytes) => Some(text_of(rt.alloc(), bytes)?),
-        Err(_) => None,
-    };
-    Ok(SourceFile {
-        path: String::from_str(rt.alloc(), path)?,
-        text,
-    })
-}
-
-/// The files of the source, in the order of the names, as far as they are found in folders.
-fn source_files(
-    rt: &HostRuntime,
-    folders: &[&str],
-    names: Option<&Names<'_>>,
-) -> io::Result<Vec<SourceFile>> {
-    let mut found = Vec::new(rt.alloc());
-    let Some(names) = names else {
-        return Ok(found);
-    };
-    let files = files_of(rt, folders)?;
-    for source in &names.sources {
-        found.push(source_file(rt, files.paths.as_slice(), source)?)?;
-    }
-    Ok(found)
 }
 
 /// A report on what ran of a story.
@@ -301,6 +190,28 @@ fn find_in(rt: &HostRuntime, story: &str, covered: &[u32]) -> Result<Found, u8> 
     }
 }
 
+/// Whether one of some texts was shown, by what is covered.
+fn is_one_covered(texts: &[ListedText], covered: &[u32]) -> bool {
+    texts
+        .iter()
+        .any(|text| covered.binary_search(&text.address).is_ok())
+}
+
+/// The texts that lie apart from code, or the program's status, where it is told why they are not found. There are none
+/// where no play has noted that it printed one: then nothing tells which were.
+fn strings_in(rt: &HostRuntime, story: &str, covered: &[u32]) -> Result<Vec<ListedText>, u8> {
+    let about = About::new(story, "");
+    let Look { exit, found } = look_into(rt, &about, story, Listing::Info(&[Section::Strings]));
+    let Some(found) = found else {
+        return Err(tell_exit(rt, &exit, &about));
+    };
+    match texts_in(rt.alloc(), &found.facts()) {
+        Ok(strings) if is_one_covered(strings.as_slice(), covered) => Ok(strings),
+        Ok(_) => Ok(Vec::new(rt.alloc())),
+        Err(_) => Err(out_of_memory(rt)),
+    }
+}
+
 /// Sees that options name no file that is read, and ask for nothing that needs names without them; or answers the
 /// program's status, where it is told what is wrong.
 fn see_options(rt: &HostRuntime, paths: &[&str], options: &CoverOptions<'_>) -> Result<(), u8> {
@@ -344,7 +255,10 @@ fn report_found(
     folders: &[&str],
     options: CoverOptions<'_>,
 ) -> Result<(), u8> {
-    let Ok(texts) = report_texts(rt.alloc(), listed.texts.as_slice()) else {
+    let (Ok(texts), Ok(strings)) = (
+        report_texts(rt.alloc(), listed.texts.as_slice()),
+        report_texts(rt.alloc(), listed.strings.as_slice()),
+    ) else {
         return Err(out_of_memory(rt));
     };
     let Ok(sources) = source_files(rt, folders, names) else {
@@ -359,6 +273,7 @@ fn report_found(
             instructions: listed.instructions.as_slice(),
             routines: listed.routines.as_slice(),
             texts: texts.as_slice(),
+            strings: strings.as_slice(),
         },
         names,
         sources: sources.as_slice(),
@@ -385,7 +300,8 @@ fn report_on(
     let facts = found.facts();
     see_covers(rt, files.as_slice(), facts.memory)?;
     see_named(rt, options.names, names.as_ref(), facts.memory)?;
-    let Ok(listed) = listed_by(rt.alloc(), &facts, covered) else {
+    let strings = strings_in(rt, story, covered.as_slice())?;
+    let Ok(listed) = listed_by(rt.alloc(), &facts, strings, covered) else {
         return Err(out_of_memory(rt));
     };
     report_found(rt, story, &listed, names.as_ref(), folders, options)

@@ -1,12 +1,15 @@
 // The compiler's debugging file of a story.
 
+use crate::about::About;
 use crate::exit::Exit;
+use crate::listing::open_listed;
 use crate::told::{out_of_memory, tell_last_line, tell_unread};
 use std::alloc::{AllocError, Global};
+use zk_inform::document::names_document;
 use zk_mem::memory::Memory;
+use zk_mem::story::OpenError;
 use zk_names::damage::ReadError;
-use zk_names::names::{Names, Place};
-use zk_names::text::plain_text;
+use zk_names::names::Names;
 use zk_system::files::{MOST_TEXT, read_whole};
 use zk_system::shown::Shown;
 use zk_vm::stop::Stop;
@@ -20,6 +23,30 @@ pub fn read_names(rt: &HostRuntime, path: Option<&str>) -> Result<Option<Vec<u8>
     match read_whole(rt, path, MOST_TEXT) {
         Ok(bytes) => Ok(Some(bytes)),
         Err(error) => Err(tell_unread(rt, path, error)),
+    }
+}
+
+/// The names that a story has itself, as a debugging file has names; none where these bytes are no story.
+fn own_names(alloc: Global, bytes: &[u8]) -> Result<Option<Vec<u8>>, AllocError> {
+    match open_listed(alloc, bytes, &About::new("", "")) {
+        Ok(memory) => Ok(Some(names_document(alloc, &memory)?)),
+        Err(Exit::Refused(OpenError::OutOfMemory)) => Err(AllocError),
+        Err(Exit::Refused(_)) => Ok(None),
+        // bytes in memory can be read, unless memory is short
+        Err(_) => Err(AllocError),
+    }
+}
+
+/// The bytes of the debugging file that an option names for listings, if it does: of one that is made of the names
+/// which a story has itself, where it names a story. Or the program's status, where it is told why it can't be read.
+pub fn read_listed_names(rt: &HostRuntime, path: Option<&str>) -> Result<Option<Vec<u8>>, u8> {
+    let Some(bytes) = read_names(rt, path)? else {
+        return Ok(None);
+    };
+    match own_names(rt.alloc(), bytes.as_slice()) {
+        Ok(Some(own)) => Ok(Some(own)),
+        Ok(None) => Ok(Some(bytes)),
+        Err(_) => Err(out_of_memory(rt)),
     }
 }
 
@@ -67,63 +94,4 @@ pub fn see_named(
         Shown(path)
     );
     Err(tell_last_line(rt, &Exit::Stopped(Stop::Read)))
-}
-
-/// A place in the source, as `cave.inf:14`.
-fn place_text(alloc: Global, names: &Names<'_>, place: Place) -> Result<String, AllocError> {
-    let line = place.line;
-    match names.source(place.file) {
-        Some(source) => {
-            let path = plain_text(alloc, source.given)?;
-            format!(in alloc; "{}:{line}", Shown(path.as_str()))
-        }
-        None => format!(in alloc; "line {line}"),
-    }
-}
-
-/// Where an address of code stands in the source: its file and line, and its routine; or where one is not known, the
-/// address.
-pub(crate) fn source_text(
-    alloc: Global,
-    names: &Names<'_>,
-    address: u32,
-) -> Result<String, AllocError> {
-    let mut text = match names.place_at(address) {
-        Some(place) => place_text(alloc, names, place)?,
-        None => format!(in alloc; "{address:05x}")?,
-    };
-    if let Some(routine) = names.routine_at(address) {
-        let name = plain_text(alloc, routine.name)?;
-        text.push_str(" in ")?;
-        text.push_str(format!(in alloc; "{}", Shown(name.as_str()))?.as_str())?;
-    }
-    Ok(text)
-}
-
-/// Local variables of the routine at an address, by their names: `(n=60000, x=0)`. Those without names are left out.
-pub(crate) fn locals_text(
-    alloc: Global,
-    names: &Names<'_>,
-    address: u32,
-    values: &[u16],
-) -> Result<String, AllocError> {
-    let mut text = String::new(alloc);
-    let Some(routine) = names.routine_at(address) else {
-        return Ok(text);
-    };
-    for local in names.locals_of(&routine) {
-        let value = local
-            .number
-            .checked_sub(1)
-            .and_then(|index| values.get(index as usize));
-        if let Some(value) = value {
-            let name = plain_text(alloc, local.name)?;
-            let before = if text.is_empty() { " (" } else { ", " };
-            text.push_str(format!(in alloc; "{before}{}={value}", Shown(name.as_str()))?.as_str())?;
-        }
-    }
-    if !text.is_empty() {
-        text.push_str(")")?;
-    }
-    Ok(text)
 }

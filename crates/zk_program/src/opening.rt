@@ -8,7 +8,8 @@ use crate::exit::Exit;
 use std::alloc::Global;
 use std::io::{self, ErrorKind, Read};
 use zk_blorb::looks::Looks;
-use zk_mem::story::Story;
+use zk_mem::story::{OpenError, Story};
+use zk_vm::stop::Stop;
 
 /// One byte past the greatest length of a story: a longer file is too long by what is read of it.
 const MOST_BYTES: u64 = 524_289;
@@ -48,7 +49,8 @@ pub fn read_story<R: Read + Drop>(alloc: Global, reader: R) -> io::Result<Vec<u8
     Ok(bytes)
 }
 
-/// Opens the story that a reader gives, and notes what its bytes look like.
+/// Opens the story that a reader gives, and notes what its bytes look like. Refused too where it can't be read, and for
+/// lack of memory.
 pub fn open_story<R: Read + Drop>(alloc: Global, reader: R, about: &About) -> Result<Story, Exit>
     ensures { IsOpened (R.remaining reader) result }
 {
@@ -59,6 +61,11 @@ pub fn open_story<R: Read + Drop>(alloc: Global, reader: R, about: &About) -> Re
     about.looks.set(Looks::of(bytes.as_slice()));
     match Story::of(bytes) {
         Ok(story) => Ok(story),
-        Err(error) => Err(Exit::Refused(error)),
+        Err(error) => {
+            if error == OpenError::OutOfMemory {
+                return Err(Exit::Stopped(Stop::Memory));
+            }
+            Err(Exit::Refused(error))
+        }
     }
 }

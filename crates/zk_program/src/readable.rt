@@ -9,6 +9,8 @@ use crate::facts::{Look, look_into};
 use crate::heading::write_heading;
 use crate::listed::Listed;
 use crate::listing::{CodeListing, ListError, Listing, exit_after, leave_out};
+use crate::misuses::misuse_lines;
+use crate::names::see_named;
 use crate::play::screen_of;
 use crate::report::report_listing;
 use crate::told::out_of_memory;
@@ -16,9 +18,14 @@ use std::alloc::AllocError;
 use zk_command::settings::Form;
 use zk_facts::outcome::Facts;
 use zk_inspect::section::Section;
+use zk_named::code::{CodeView, facts_of};
+use zk_named::labels::{object_labels, routine_labels};
+use zk_named::source_lines::SourceLines;
+use zk_named::tables::TableView;
+use zk_names::names::Names;
 use zk_notes::counts::Counts;
-use zk_notes::cover::marked;
-use zk_notes::graph::{code_graph, tree_graph};
+use zk_notes::cover::{marked, summary};
+use zk_notes::graph::{Around, Label, code_graph, tree_graph};
 use zk_notes::lines::plain_lines;
 use zk_notes::missing::{without_instruction, without_routine};
 use zk_notes::picture::map_picture;
@@ -27,20 +34,47 @@ use zk_term::io_device::IoDevice;
 use zk_term::target::{Failed, write_all};
 use zk_vm::stop::Stop;
 
+/// By which names listings are shown, and which code of them.
+#[derive(Clone, Copy, Drop)]
+pub struct ListNaming<'a, 'n, 'p, 'm> {
+    /// The path of the compiler's debugging file, and what it says.
+    pub path: Option<&'p str>,
+    pub names: Option<&'m Names<'n>>,
+    /// The files of the source, in the order of the names, where lines of them are shown.
+    pub sources: &'a [Option<SourceLines>],
+    /// Whether each routine is headed with the places that it is called from.
+    pub callers: bool,
+    /// The byte addresses that parts of the code have, where no others are shown.
+    pub only: Option<&'a [u32]>,
+    /// Which calls a graph shows.
+    pub around: Option<Around>,
+}
+
+impl ListNaming<'_, '_, '_, '_> {
+    /// Whether nothing is shown otherwise.
+    fn is_plain(&self) -> bool {
+        self.names.is_none() && !self.callers && self.only.is_none()
+    }
+}
+
 /// What is asked of each story.
 #[derive(Clone, Copy, Drop)]
-pub struct ListRequest<'a> {
+pub struct ListRequest<'a, 's, 'n, 'p, 'm> {
     pub listing: Listing<'a>,
     pub form: Form,
     /// Whether notes stand beside what is listed.
     pub notes: bool,
     /// What ran, where it is marked.
     pub covered: Option<&'a Covered<'a>>,
+    pub naming: ListNaming<'s, 'n, 'p, 'm>,
 }
 
-impl<'a> ListRequest<'a> {
+impl<'a> ListRequest<'a, '_, '_, '_, '_> {
     /// Whether the listing is shown as it is written.
     pub fn is_plain(&self) -> bool {
+        if !self.naming.is_plain() {
+            return false;
+        }
         match (self.form, self.listing) {
             (Form::Lines, Listing::Code(code)) => {
                 self.covered.is_none() && code.addresses.is_empty() && code.routines.is_empty()
@@ -60,23 +94,150 @@ impl<'a> ListRequest<'a> {
     }
 }
 
+/// Code as lines, with marks where it is covered.
+fn plain_code(
+    rt: &HostRuntime,
+    facts: &Facts<'_>,
+    request: &ListRequest<'_, '_, '_, '_, '_>,
+    code: &CodeListing<'_>,
+) -> Result<Vec<u8>, AllocError> {
+    match request.covered {
+        Some(covered) => marked(rt.alloc(), facts, code.notes, covered.addresses.as_slice()),
+        None => plain_lines(rt.alloc(), facts, code.notes),
+    }
+}
+
+/// Code part by part, with headings and names.
+fn headed_code(
+    rt: &HostRuntime,
+    facts: &Facts<'_>,
+    request: &ListRequest<'_, '_, '_, '_, '_>,
+    code: &CodeListing<'_>,
+) -> Result<Vec<u8>, AllocError> {
+    let naming = request.naming;
+    let covered = match request.covered {
+        Some(covered) => Some(covered.addresses.as_slice()),
+        None => None,
+    };
+    let view = CodeView {
+        alloc: rt.alloc(),
+        facts: *facts,
+        names: naming.names,
+        sources: naming.sources,
+        notes: code.notes,
+        covered,
+        only: naming.only,
+    };
+    let mut text = view.text()?;
+    if let Some(covered) = covered {
+        let last = last_line(rt, facts, naming.only, covered)?;
+        text.extend_from_slice(last.as_slice())?;
+    }
+    Ok(text)
+}
+
+/// The line that says how much ran of what is listed.
+fn last_line(
+    rt: &HostRuntime,
+    facts: &Facts<'_>,
+    only: Option<&[u32]>,
+    covered: &[u32],
+) -> Result<Vec<u8>, AllocError> {
+    let Some(addresses) = only else {
+        return summary(rt.alloc(), facts, covered);
+    };
+    let list = facts_of(rt.alloc(), facts, addresses)?;
+    let facts = Facts {
+        memory: facts.memory,
+        list: list.as_slice(),
+    };
+    summary(rt.alloc(), &facts, covered)
+}
+
+/// The text that shows code.
+fn code_text(
+    rt: &HostRuntime,
+    facts: &Facts<'_>,
+    request: &ListRequest<'_, '_, '_, '_, '_>,
+    code: &CodeListing<'_>,
+) -> Result<Vec<u8>, AllocError> {
+    let naming = request.naming;
+    if naming.names.is_some() || naming.callers {
+        return headed_code(rt, facts, request, code);
+    }
+    match naming.only {
+        Some(addresses) => {
+            let list = facts_of(rt.alloc(), facts, addresses)?;
+            let facts = Facts {
+                memory: facts.memory,
+                list: list.as_slice(),
+            };
+            plain_code(rt, &facts, request, code)
+        }
+        None => plain_code(rt, facts, request, code),
+    }
+}
+
+/// The text that shows tables or findings.
+fn table_text(
+    rt: &HostRuntime,
+    facts: &Facts<'_>,
+    request: &ListRequest<'_, '_, '_, '_, '_>,
+) -> Result<Vec<u8>, AllocError> {
+    if let Some(names) = request.naming.names {
+        let view = TableView {
+            alloc: rt.alloc(),
+            facts: *facts,
+            names,
+            notes: request.notes,
+        };
+        return view.text();
+    }
+    match request.listing {
+        Listing::Findings if request.notes => findings::explain(rt.alloc(), facts),
+        Listing::Info(_) if request.notes => info_notes::explain(rt.alloc(), facts),
+        _ => plain_lines(rt.alloc(), facts, false),
+    }
+}
+
+/// The labels of a graph of routines or of objects.
+fn labels_of(
+    rt: &HostRuntime,
+    request: &ListRequest<'_, '_, '_, '_, '_>,
+) -> Result<Vec<Label>, AllocError> {
+    match (request.naming.names, request.listing) {
+        (Some(names), Listing::Code(_)) => routine_labels(rt.alloc(), names),
+        (Some(names), _) => object_labels(rt.alloc(), names),
+        (None, _) => Ok(Vec::new(rt.alloc())),
+    }
+}
+
+/// The text of a graph.
+fn graph_text(
+    rt: &HostRuntime,
+    facts: &Facts<'_>,
+    request: &ListRequest<'_, '_, '_, '_, '_>,
+) -> Result<Vec<u8>, AllocError> {
+    let labels = labels_of(rt, request)?;
+    match request.listing {
+        Listing::Code(_) => {
+            code_graph(rt.alloc(), facts, labels.as_slice(), request.naming.around)
+        }
+        _ => tree_graph(rt.alloc(), facts, labels.as_slice()),
+    }
+}
+
 /// The text that shows a listing.
 fn shown_text(
     rt: &HostRuntime,
     facts: &Facts<'_>,
-    request: &ListRequest<'_>,
+    request: &ListRequest<'_, '_, '_, '_, '_>,
 ) -> Result<Vec<u8>, AllocError> {
     match (request.form, request.listing) {
-        (Form::Graph, Listing::Code(_)) => code_graph(rt.alloc(), facts),
-        (Form::Graph, _) => tree_graph(rt.alloc(), facts),
+        (Form::Graph, _) => graph_text(rt, facts, request),
         (Form::Picture, _) => map_picture(rt.alloc(), facts),
-        (_, Listing::Code(code)) => match request.covered {
-            Some(covered) => marked(rt.alloc(), facts, code.notes, covered.addresses.as_slice()),
-            None => plain_lines(rt.alloc(), facts, code.notes),
-        },
-        (_, Listing::Info(_)) if request.notes => info_notes::explain(rt.alloc(), facts),
-        (_, Listing::Findings) if request.notes => findings::explain(rt.alloc(), facts),
-        _ => plain_lines(rt.alloc(), facts, false),
+        (_, Listing::Code(code)) => code_text(rt, facts, request, &code),
+        _ => table_text(rt, facts, request),
     }
 }
 
@@ -95,11 +256,23 @@ fn tell_missing(
     Ok(())
 }
 
+/// What the code of a story does by its constants that an author hardly means, where it is checked by names.
+fn misuses_in(
+    rt: &HostRuntime,
+    facts: &Facts<'_>,
+    request: &ListRequest<'_, '_, '_, '_, '_>,
+) -> Result<Vec<u8>, AllocError> {
+    match (request.naming.names, request.listing) {
+        (Some(names), Listing::Findings) => misuse_lines(rt.alloc(), facts.memory, names),
+        _ => Ok(Vec::new(rt.alloc())),
+    }
+}
+
 /// The text that shows a listing; tells first which of the addresses that are named have nothing.
 fn text_and_missing(
     rt: &HostRuntime,
     facts: &Facts<'_>,
-    request: &ListRequest<'_>,
+    request: &ListRequest<'_, '_, '_, '_, '_>,
 ) -> Result<Vec<u8>, AllocError> {
     if let Listing::Code(code) = request.listing {
         tell_missing(rt, facts, &code)?;
@@ -107,34 +280,48 @@ fn text_and_missing(
     shown_text(rt, facts, request)
 }
 
-/// Writes the text that shows a listing, below the story's path where it is one of several. Refused where the write
-/// fails, and for lack of memory.
+/// Writes the text that shows a listing, below the story's path where it is one of several, and tells whether it shows
+/// what an author hardly means. Refused where the write fails, and for lack of memory.
 fn write_shown(
     rt: &HostRuntime,
     about: &About,
     facts: &Facts<'_>,
-    request: &ListRequest<'_>,
-) -> Result<(), ListError> {
-    let Ok(shown) = text_and_missing(rt, facts, request) else {
+    request: &ListRequest<'_, '_, '_, '_, '_>,
+) -> Result<bool, ListError> {
+    let (Ok(mut shown), Ok(misuses)) = (
+        text_and_missing(rt, facts, request),
+        misuses_in(rt, facts, request),
+    ) else {
         return Err(ListError::Memory);
     };
+    if shown.extend_from_slice(misuses.as_slice()).is_err() {
+        return Err(ListError::Memory);
+    }
     let mut screen = screen_of(rt, about);
     let Ok(()) = write_heading(&mut screen, about.heading, None) else {
         return Err(ListError::Write);
     };
     match write_all(&mut screen, shown.as_slice()) {
-        Ok(()) => Ok(()),
+        Ok(()) => Ok(!misuses.is_empty()),
         Err(Failed) => Err(ListError::Write),
     }
 }
 
+/// How a listing ends that shows what an author hardly means, or not.
+fn exit_with(exit: Exit, misused: bool) -> Exit {
+    match exit {
+        Exit::Stopped(Stop::Quit) if misused => Exit::Found,
+        exit => exit,
+    }
+}
+
 /// Shows what was found, and counts its findings; answers how that ends, or the program's status, where it is told that
-/// the coverage is of another story.
+/// the coverage or the names are of another story.
 fn show_found(
     rt: &HostRuntime,
     about: &About,
     look: Look,
-    request: &ListRequest<'_>,
+    request: &ListRequest<'_, '_, '_, '_, '_>,
     counts: &mut Counts,
 ) -> Result<Exit, u8> {
     let Look { exit, found } = look;
@@ -144,9 +331,10 @@ fn show_found(
             if let Some(covered) = request.covered {
                 covered.see_story(rt, facts.memory)?;
             }
+            see_named(rt, request.naming.path, request.naming.names, facts.memory)?;
             counts.add(facts.list);
             match write_shown(rt, about, &facts, request) {
-                Ok(()) => Ok(exit),
+                Ok(misused) => Ok(exit_with(exit, misused)),
                 Err(error) => Ok(exit_after(Err(error))),
             }
         }
@@ -168,7 +356,7 @@ pub fn list_readable<'a>(
     rt: &HostRuntime,
     path: &'a str,
     heading: Option<&'a str>,
-    request: &ListRequest<'_>,
+    request: &ListRequest<'_, '_, '_, '_, '_>,
     counts: &mut Counts,
 ) -> Listed {
     let about = About::listed(path, heading);

@@ -13,6 +13,7 @@ use crate::listing::open_listed;
 use crate::names::{names_of, read_names, see_named};
 use crate::playing::{Devices, PlayRequest, play_and_report};
 use crate::session::{Commands, MemorySlot, Session, SessionScreen};
+use crate::strict::{SeenMisuse, misuses_in_play};
 use crate::told::{out_of_memory, tell_unwritten};
 use std::fs::File;
 use std::io::{self, ErrorKind, Write};
@@ -92,6 +93,8 @@ struct OpenStory<'a> {
 /// A walkthrough that was played.
 #[derive(Drop)]
 struct Played {
+    /// What it does that an author hardly means, where that is looked for.
+    misuses: Vec<SeenMisuse>,
     /// What it showed.
     text: Vec<u8>,
     /// How much of the text there was as each command was asked for.
@@ -177,6 +180,7 @@ fn play_commands(
     let lacks_memory = session.lacks_memory();
     let (text, asked) = session.into_parts();
     Played {
+        misuses: Vec::new(rt.alloc()),
         text,
         asked,
         lacks_memory,
@@ -504,9 +508,12 @@ fn judge_played(
         let reason = format!(in rt.alloc(); "the play ended with status {}", played.status)?;
         fail_at(rt, path, walkthrough, played.asked.len(), reason.as_str())?;
         write_ending(rt, commands, played, suite.names.is_some())?;
+        write_misuses(rt, played)?;
         return Ok(false);
     }
-    if !pass_errors(rt, path, walkthrough, played)? {
+    if !pass_misuses(rt, path, walkthrough, played)?
+        || !pass_errors(rt, path, walkthrough, played)?
+    {
         return Ok(false);
     }
     let checks = walkthrough.checks(rt.alloc())?;
@@ -515,6 +522,57 @@ fn judge_played(
     }
     let bless = suite.options.bless;
     judge(rt, path, walkthrough, played, !checks.is_empty(), bless)
+}
+
+/// What the commands of a walkthrough make a story do that an author hardly means, where that is looked for. Then the
+/// coverage file gets the texts that it prints by their addresses.
+fn look_for_misuses(
+    rt: &HostRuntime,
+    story: &str,
+    manner: Manner,
+    commands: &[u8],
+    suite: &mut Suite<'_>,
+) -> io::Result<Vec<SeenMisuse>>
+    requires { AreInRange manner.settings.limits }
+{
+    if !suite.options.strict {
+        return Ok(Vec::new(rt.alloc()));
+    }
+    let file = File::open(rt, story)?;
+    let names = suite.names.as_ref();
+    let settings = manner.settings;
+    let found = match &mut suite.cover {
+        Some(cover) => {
+            let texts = Some(&mut cover.cover);
+            misuses_in_play(rt.alloc(), file, settings, commands, names, texts)
+        }
+        None => misuses_in_play(rt.alloc(), file, settings, commands, names, None),
+    };
+    Ok(found?)
+}
+
+/// Writes what a play does that an author hardly means.
+fn write_misuses(rt: &HostRuntime, played: &Played) -> io::Result<()> {
+    for seen in &played.misuses {
+        println!(rt; "    {}", seen.text)?;
+    }
+    Ok(())
+}
+
+/// Says of what a play does that an author hardly means, and tells whether the test goes on.
+fn pass_misuses(
+    rt: &HostRuntime,
+    path: &str,
+    walkthrough: &Walkthrough,
+    played: &Played,
+) -> io::Result<bool> {
+    let Some(first) = played.misuses.first() else {
+        return Ok(true);
+    };
+    let reason = "the story does what is hardly meant";
+    fail_at(rt, path, walkthrough, first.commands, reason)?;
+    write_misuses(rt, played)?;
+    Ok(false)
 }
 
 /// Tests a walkthrough on a story, as settings say.
@@ -529,7 +587,9 @@ fn test_on(
     requires { AreInRange manner.settings.limits }
 {
     let commands = walkthrough.commands(rt.alloc())?;
+    let misuses = look_for_misuses(rt, story.path, manner, commands.as_slice(), suite)?;
     let played = play_commands(rt, story, manner, commands.as_slice(), suite);
+    let played = Played { misuses, ..played };
     judge_played(rt, path, walkthrough, commands.as_slice(), &played, suite)
 }
 

@@ -115,6 +115,7 @@ fn answer(rt: &HostRuntime, arguments: &[String], paths: Option<&[String]>) -> u
             Choice::Show {
                 stories,
                 roots,
+                naming,
                 options,
                 asked,
             },
@@ -122,6 +123,7 @@ fn answer(rt: &HostRuntime, arguments: &[String], paths: Option<&[String]>) -> u
             rt,
             stories.as_slice(),
             &roots,
+            &naming,
             options,
             &asked,
             paths.is_some(),

@@ -3,7 +3,7 @@ use Rattle.std.proofs.lemmas.List.{take_all}
 use Rattle.clap.specs.Words.{App, with_subcommand}
 use Rattle.zk_command.specs.CommandLine.{with_tables}
 use Rattle.zk_command.proofs.CommandLines.{tables_more}
-use Rattle.zk_command.proofs.choice.with_commands.Goals as goal
+use Rattle.zk_command.proofs.command_line.with_commands.Goals as goal
 
 pub loop-table-preserved : goal.loop-table-preserved
 loop-table-preserved c = record {

@@ -3,7 +3,7 @@ use Rattle.std.proofs.lemmas.List.{take_all}
 use Rattle.clap.specs.Words.{with_rule}
 use Rattle.zk_command.specs.CommandLine.{section_rule}
 use Rattle.zk_command.proofs.CommandLines.{rules_more}
-use Rattle.zk_command.proofs.choice.with_sections.Goals as goal
+use Rattle.zk_command.proofs.command_line.with_sections.Goals as goal
 
 pub loop-section-preserved : goal.loop-section-preserved
 loop-section-preserved c = record {

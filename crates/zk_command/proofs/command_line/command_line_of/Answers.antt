@@ -2,7 +2,7 @@ use Rattle.std.proofs.Common.{rules, ◌≡◌, codes, true}
 use Rattle.std.proofs.lemmas.Result.{IfOk-weaker}
 use Rattle.clap.specs.Words.{app_of, new_app}
 use Rattle.clap.specs.Simple.{on_top}
-use Rattle.zk_command.proofs.choice.command_line_of.Goals as goal
+use Rattle.zk_command.proofs.command_line.command_line_of.Goals as goal
 
 pub returns : goal.returns
 returns c =

@@ -3,7 +3,7 @@ use Rattle.std.proofs.lemmas.List.{take_all}
 use Rattle.clap.specs.Words.{with_rule}
 use Rattle.zk_command.specs.CommandLine.{option_rule}
 use Rattle.zk_command.proofs.CommandLines.{rules_more}
-use Rattle.zk_command.proofs.choice.command_of.Goals as goal
+use Rattle.zk_command.proofs.command_line.command_of.Goals as goal
 
 pub loop-option-preserved : goal.loop-option-preserved
 loop-option-preserved c = record {

@@ -1,7 +1,7 @@
 use Rattle.std.proofs.Common.{◌≡◌, take}
 use Rattle.clap.specs.Words.{app_of}
 use Rattle.zk_command.specs.CommandLine.{with_tables}
-use Rattle.zk_command.proofs.choice.with_commands.Given as goal
+use Rattle.zk_command.proofs.command_line.with_commands.Given as goal
 
 abbrev pub invariant-loop-table : goal.invariant-loop-table
 invariant-loop-table l = record {

@@ -3,7 +3,7 @@ use Rattle.std.specs.Prelude.{map}
 use Rattle.clap.specs.Words.{app_of, new_app}
 use Rattle.clap.specs.declared.Command.TheViews.{out-Command as fields_of}
 use Rattle.zk_command.specs.CommandLine.{option_rule, section_rule, with_rules}
-use Rattle.zk_command.proofs.choice.command_of.Given as goal
+use Rattle.zk_command.proofs.command_line.command_of.Given as goal
 
 abbrev pub invariant-loop-option : goal.invariant-loop-option
 invariant-loop-option l = record {
