@@ -12,6 +12,7 @@ from __future__ import annotations
 
 import concurrent.futures
 import functools
+import itertools
 import os
 import pathlib
 import re
@@ -36,8 +37,10 @@ BESIDE = ".zkit-583876d75cd7d1d9"
 OLD_SCRIPT = b"an old transcript"
 NO_MEMORY = "zkit: out of memory\n"
 BOOK = Book(pathlib.Path(__file__).with_name("failures.cases"))
+# What is told of a test for which memory lacks; a strict one may tell below what it had found.
 FAILED_TEST = re.compile(
-    r"FAILED (\S+): (?:\S+: out of memory|the play ended with status 5\n    zkit: out of memory\n    )\n"
+    r"FAILED \S+: (?:\S+: out of memory\n"
+    r"|the play ended with status 5\n(?:    .*\n)*?    zkit: out of memory\n(?:    .*\n)*)"
 )
 NOT_SAVED = re.compile(r"(?<=: the game was not saved: ).*")
 # What is told of a coverage file, or a file of a report, for which memory lacks.
@@ -155,12 +158,14 @@ def is_without_some(plan: Plan, came: Came, whole: Came) -> bool:
 
 
 def is_failed_test(plan: Plan, came: Came, whole: Came) -> bool:
-    """Whether a run has tests of which one fails for lack of memory, and no other."""
-    *tests, _ = FAILED_TEST.sub(r"passed \1\n", came.shown).splitlines() or [""]
+    """Whether a run has tests of which one fails for lack of memory, and all others are told as with memory."""
+    (*tests, _), (*others, _) = (re.split(r"(?m)^(?=passed |FAILED |\d)", it.shown) for it in (came, whole))
+    unlike = [test for test, other in itertools.zip_longest(tests, others, fillvalue="") if test != other]
     return (
         plan.words[0] == "test"
         and came.status == 1
-        and tests == whole.shown.splitlines()[:-1]
+        and len(unlike) == 1
+        and FAILED_TEST.fullmatch(unlike[0]) is not None
         and came._replace(status=0, shown="") == whole._replace(status=0, shown="")
     )
 

@@ -11,6 +11,7 @@ and `names_damage.py` damages debugging files.
 from __future__ import annotations
 
 import itertools
+import re
 import shutil
 import subprocess
 from collections.abc import Iterator
@@ -22,6 +23,7 @@ from xml.etree.ElementTree import ParseError
 from cases import EXAMPLES, Program, run_cases, same, text_of, unlike
 from ending import end_with, workers
 from names_damage import WAYS, Damage
+from names_listing import Code, OwnThings, Things, tables
 from names_second import (
     TOLD, Calls, Frame, Listing, Named, Page, Report, found_among, is_well_formed, stopped_in, trace_in,
 )
@@ -55,6 +57,23 @@ MISTAKES = (
     ("weigh", "fault 9", "fault 9", ("weigh",)),
     ("library", "limit 3", "limit 3", ("library",)),
 )
+
+# What is typed for each mistake that is none by the Standard; the comment at its line, which `test --strict` tells with
+# strict checks of the compiler and without them, or without them alone; and what it is.
+MISUSES = (
+    ("peruse", "read", False, "reads few-->30000, but few ends with few-->3"),
+    ("scribble", "write", False, "writes few-->30000, but few ends with few-->3"),
+    ("poke", "byte", False, "writes fewer->60000, but fewer ends with fewer->3"),
+    ("zero", "zero", True, "calls routine 0"),
+    ("itself", "itself", True, "moves nut into itself"),
+    ("fine", "", True, ""),
+)
+TABLES = ["--globals", "--objects", "--tree", "--properties"]
+# A line of a string, and how long one is that stands nowhere else by chance.
+STRING = re.compile('([0-9a-f]{5}) #[0-9a-f]{4} "(.*)"')
+LONG = 12
+# A debugging file that names nothing.
+NO_NAMES = b"<names><story-file-prefix></story-file-prefix></names>"
 
 # A game without the library, in two files whose names have what XML writes in another way. A statement stands in the
 # place of MISTAKE.
@@ -132,6 +151,9 @@ class Names(Program):
             self.left_out("there is no genhtml", "whether it reads the traces")
         for game in games():
             self.case(f"report: {game}", self.reported, game)
+        for version, strict in itertools.product((3, 5, 8), (True, False)):
+            game = Game(LIGHTHOUSE, version, strict, WALKTHROUGH)
+            self.case(f"strings: {game}", self.strings, game)
         for version, strict in ((3, False), (5, False), (5, True)):
             for statement, *ends in STATEMENTS:
                 game = Game(None, version, strict, statement=statement)
@@ -140,6 +162,13 @@ class Names(Program):
             for typed, with_checks, without, marks in MISTAKES:
                 game = Game(PLANTED, version, strict, f"{typed}\n")
                 self.case(f"{typed}: {game}", self.planted, game, with_checks if strict else without, marks)
+        for game in games():
+            self.case(f"listing: {game}", self.by_names, game)
+        for version, strict in itertools.product((5, 8), (True, False)):
+            for typed, mark, always, told in MISUSES:
+                game = Game(PLANTED, version, strict, f"{typed}\nfine\n")
+                is_told = bool(told) and (always or not strict)
+                self.case(f"strict, {typed}: {game}", self.misused, game, mark, told if is_told else "")
         self.case("sources of one name in two folders", self.two_folders)
         self.case("a source in Latin-1", self.latin)
         self.case("damaged files", self.damaged)
@@ -227,6 +256,28 @@ class Names(Program):
         same(len(report.files()), len(page.lines), "files on the page")
         same(sorted(report.not_shown()), sorted(page.quoted), "texts that were not shown")
 
+    def strings(self, game: Game) -> None:
+        """A strict test notes the strings that it prints, which are those that the player has seen."""
+        self.compiled(game)
+        self.write({"game/it.walkthrough": f"# story: {Path(game.story).name}\n{game.typed}"})
+        self.told(["test", "--strict", "--bless", "--cover", "game/ran", "game/it.walkthrough"])
+        seen = " ".join(text_of(self.read("game/it.transcript")).split())
+        ran = {int(line, 16) for line in text_of(self.read("game/ran")).splitlines()[1:]}
+        listed = self.told(["info", "--strings", game.story])[0].splitlines()
+        texts = {int(it[1], 16): it[2] for it in map(STRING.fullmatch, listed) if it}
+        for address, text in texts.items():
+            words = " ".join(text.replace("^", " ").replace("~", '"').split())
+            if len(words) >= LONG:
+                same(words in seen, address in ran, text)
+        missed = [text for address, text in texts.items() if address not in ran]
+        wanted = f"strings: {len(texts) - len(missed)} of {len(texts)} texts"
+        out = ["--html", "game/page.html", "game/ran", game.story]
+        for names in ("", "--names game/gameinfo.dbg"):
+            shown, _ = self.told(["cover", *names.split(), *out])
+            same(wanted, shown.splitlines()[-2], "the line of the strings")
+            quoted = Page(text_of(self.read("game/page.html"))).quoted
+            same(missed, quoted[len(quoted) - len(missed):], "strings that were not shown")
+
     def report_of(self, sources: dict[str, bytes]) -> tuple[str, bytes]:
         """The trace file and the page of a play of a game whose main source is `main.inf`."""
         self.write({f"game/{name}": content for name, content in sources.items()})
@@ -255,6 +306,94 @@ class Names(Program):
         lines = Page(page.decode()).lines["main.inf"]
         same(("+", "+"), (lines[1][0], lines[2][0]))
         same(True, lines[1][1].startswith('[ Main; print "caf'))
+
+    # ---- listings by names
+
+    def by_names(self, game: Game) -> None:
+        """The listings of a game by names."""
+        named = self.compiled(game)
+        things = Things((self.folder / "game/gameinfo.dbg").read_bytes())
+        story = (self.folder / game.story).read_bytes()
+        roots = [it for routine in named.routines for it in ("--routine", f"{routine.address:05x}")]
+        code = Code(named, things, story, self.told(["disasm", *roots, game.story])[0])
+        names = ["--names", "game/gameinfo.dbg"]
+        same(code.text(None), self.told(["disasm", *names, game.story])[0].splitlines(), "code")
+        self.with_sources(code, names, game)
+        self.parts(code, names, game)
+        same(
+            tables(things, self.told(["info", *TABLES, game.story])[0]),
+            self.told(["info", *names, *TABLES, game.story])[0].splitlines(), "tables",
+        )
+        self.by_own_names(game)
+        wrong = self.told(["check", game.story])[0].splitlines()
+        same([], wrong)
+        misuses = [f"{it}  ; {self.place_of(named, int(it[:5], 16))}" for it in code.misuses()]
+        same(misuses, self.told(["check", *names, game.story], status=6 if misuses else 0)[0].splitlines(), "misuses")
+
+    def by_own_names(self, game: Game) -> None:
+        """The listings of a game by the names that it has itself."""
+        things = OwnThings(
+            (self.folder / "game/gameinfo.dbg").read_bytes(), self.told(["info", "--objects", game.story])[0],
+        )
+        story, names = (self.folder / game.story).read_bytes(), ["--names", game.story]
+        code = Code(Named(NO_NAMES), things, story, self.told(["disasm", game.story])[0])
+        same(code.text(None), self.told(["disasm", *names, game.story])[0].splitlines(), "code by its own names")
+        same(
+            tables(things, self.told(["info", *TABLES, game.story])[0]),
+            self.told(["info", *names, *TABLES, game.story])[0].splitlines(), "tables by own names",
+        )
+        same(
+            self.told(["info", "--graph", game.story])[0], self.told(["info", "--graph", *names, game.story])[0],
+            "the tree by own names",
+        )
+
+    @staticmethod
+    def place_of(named: Named, address: int) -> str:
+        """Where an address stands in the source."""
+        place, routine = named.place_at(address), named.routine_at(address)
+        text = f"{named.sources[place[0]]}:{place[1]}" if place else f"{address:05x}"
+        return f"{text} in {routine.name}" if routine else text
+
+    def with_sources(self, code: Code, names: list[str], game: Game) -> None:
+        """Code with the lines of its source."""
+        paths = [str(it) for folder in (self.folder / "game", LIBRARY) for it in folder.iterdir()]
+        texts = {}
+        for file, given in code.named.sources.items():
+            found = found_among(given, paths)
+            if found:
+                texts[file] = Path(found[0]).read_text(encoding="utf-8").split("\n")
+        words = ["disasm", *names, "--source", "game", "--source", str(LIBRARY), game.story]
+        same(code.text(texts), self.told(words)[0].splitlines(), "code with its source")
+        shown, told = self.told(["disasm", *names, "--source", "nowhere", game.story], status=0)
+        same(code.text({}), shown.splitlines(), "code without its source")
+        same(True, "zkit: no file of the source is in the folders of --source\n" in told, told)
+
+    def parts(self, code: Code, names: list[str], game: Game) -> None:
+        """A part of the code alone, by the name of its routine in capital letters, and by a line of it."""
+        routine = max(code.named.routines, key=lambda it: len(it.points))
+        file, line = routine.points[-1][1]
+        lines = code.text(None)
+        begin = next(at for at, it in enumerate(lines) if it.startswith(f"routine {routine.address:05x}"))
+        wanted = lines[begin:next((at for at in range(begin, len(lines)) if not lines[at]), len(lines))]
+        given = code.named.sources[file]
+        for words in (["--routine", routine.name.upper()], ["--at", f"{given}:{line}"]):
+            shown, _ = self.told(["disasm", *names, "--only", *words, game.story])
+            same(wanted, shown.splitlines(), words[1])
+        plain = [code.lines[at] for at in sorted(code.lines) if code.part_of(at) == routine.address]
+        words = ["--only", "--routine", f"{routine.address:05x}", game.story]
+        same([*plain, code.routines[routine.address]], self.told(["disasm", *words])[0].splitlines(), "without names")
+
+    def misused(self, game: Game, mark: str, told: str) -> None:
+        """What `test --strict` tells of a play that the Standard lets pass."""
+        self.compiled(game)
+        source = PLANTED.read_text(encoding="utf-8").splitlines()
+        line = next((at for at, it in enumerate(source, 1) if mark and it.endswith(f"! here: {mark}")), 0)
+        self.write({"game/it.walkthrough": f"# story: {Path(game.story).name}\n# allow: library errors\n{game.typed}"})
+        words = ["test", "--strict", "--names", "game/gameinfo.dbg", "--bless", "game/it.walkthrough"]
+        shown, _ = self.told(words, status=1 if told else 0)
+        found = [it.strip() for it in shown.splitlines() if told and it.endswith(f": {told}")]
+        same([f"planted.inf:{line}"] * bool(told), [it.split(" in ")[0] for it in found], shown)
+        same(bool(told), shown.startswith("FAILED game/it.walkthrough: line 3: "), shown)
 
     # ---- how plays stop
 

@@ -9,7 +9,11 @@ TAG = re.compile(rb"<[^>]*>")
 TEXT = re.compile(rb">([^<]+)<")
 NUMBER = re.compile(rb">\s*([0-9]+)\s*<")
 PREFIX = re.compile(rb"<story-file-prefix>([^<]*)</")
-ELEMENTS = (b"routine", b"source", b"sequence-point", b"local-variable", b"story-file-prefix", b"identifier", b"line")
+ELEMENTS = (
+    b"routine", b"source", b"sequence-point", b"local-variable", b"story-file-prefix", b"identifier", b"line",
+    b"global-variable", b"array", b"object", b"class", b"property", b"attribute", b"address", b"value", b"byte-count",
+    b"bytes-per-element",
+)
 # What Inform does not write: parts of XML that it has no use for, and what is no XML.
 ODD = (
     b"<>", b"</>", b"< a>", b"<1></1>", b"<a b></a>", b"<a b=c></a>", b"<a/>", b"<!-- a -->", b"<!-- - -- -->", b"]]>",
@@ -19,7 +23,8 @@ ODD = (
 )
 # What is no text in UTF-8, or has a character that XML does not allow.
 NO_TEXT = (
-    b"\xff", b"\xc3", b"\xc0\x80", b"\xed\xa0\x80", b"\xf4\x90\x80\x80", b"\0", b"\x01", b"\x1b",
+    b"\xff", b"\xc3", b"\xc0\x80", b"\xed\xa0\x80", b"\xf4\x90\x80\x80", b"\xef\xbf\xbe", b"\xef\xbf\xbf",
+    b"\0", b"\x01", b"\x0c", b"\x1b",
 )
 ENTITIES = (
     b"&amp;", b"&lt;", b"&gt;", b"&quot;", b"&apos;", b"&#65;", b"&#x41;", b"&", b"&nbsp;", b"&amp", b"&;", b"&#0;",
@@ -135,7 +140,7 @@ class Damage:
 
     def element_is_moved(self) -> bytes:
         """An element is missing, stands twice or in the place of another one."""
-        name = self.chance.choice(ELEMENTS)
+        name = self.chance.choice([it for it in ELEMENTS if b"</%s>" % it in self.content])
         element = re.compile(rb"<%s[ >].*?</%s>" % (name, name), re.DOTALL)
         place, other = self.one_of(element), self.one_of(element)
         parts = (b"", self.content[slice(*other)], 2 * self.content[slice(*place)])

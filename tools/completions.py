@@ -5,7 +5,7 @@ from __future__ import annotations
 from collections.abc import Iterable
 from typing import NamedTuple, TypeVar
 
-from option_table import VALUES, Option, read_abouts, read_commands, read_screen
+from option_table import FILE, FOLDER, Option, read_abouts, read_commands, read_screen
 
 # What files end with: those of Blorb, stories, walkthroughs, and coverage files.
 BLORBS = ["zblorb", "zlb", "blorb", "blb"]
@@ -19,7 +19,6 @@ ENDINGS = {
 }
 
 T = TypeVar("T")
-FILE, FOLDER = VALUES["File"], VALUES["Folder"]
 GENERAL = [Option("help", "Shows help", ""), Option("version", "Shows the version", "")]
 MADE = "# Completes the words of {} in {}. tools/options.py --write makes this file of the table of options."
 

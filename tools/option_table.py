@@ -15,10 +15,10 @@ TABLE = TOP / "crates" / "zk_command" / "src" / "options.rt"
 SECTIONS = TOP / "crates" / "zk_inspect" / "src" / "section.rt"
 SCREEN = TOP / "screen" / "main.c"
 
-# What stands after an option of each kind.
-VALUES = {"File": "FILE", "Folder": "FOLDER", "Folders": "FOLDER", "Line": "TEXT", "Address": "ADDRESS", "Flag": ""}
-# The kinds of options that may be given several times.
-REPEATED = ("Folders", "Address")
+# What stands after an option with the path of a file, or of a folder.
+FILE, FOLDER = "FILE", "FOLDER"
+# An option with a text, which help calls by the word behind `value`, or a flag, as the table has it.
+ROW = r'(Value|Values|Flag) \{\s*name: "([\w-]+)",(?:\s*value: "([^"]*)",)?\s*help: "([^"]*)"'
 
 
 class Option(NamedTuple):
@@ -57,26 +57,25 @@ def read_numbers(text: str) -> dict[str, Option]:
     return found
 
 
+def option_of(kind: str, name: str, value: str, told: str) -> Option:
+    """The option that a row of the table has; those of the kind `Values` may be given several times."""
+    return Option(name, told, value, again=kind == "Values")
+
+
 def read_shared(text: str) -> dict[str, Option]:
     """The options that several commands have, by the names of their constants."""
-    row = r'const (\w+): CommandOption = CommandOption::(File|Folder|Flag) \{\s*name: "([\w-]+)",\s*help: "([^"]*)"'
-    return {constant: Option(name, told, VALUES[kind]) for constant, kind, name, told in re.findall(row, text)}
+    row = r"const (\w+): CommandOption = CommandOption::" + ROW
+    return {constant: option_of(*parts) for constant, *parts in re.findall(row, text)}
 
 
 def read_options(text: str, constant: str) -> list[Option]:
     """The options of a command, in their order."""
     known = {**read_numbers(text), **read_shared(text)}
     listed = text[text.index(f"const {constant}:"):].split("= [", 1)[1].split("];")[0]
-    row = (
-        r"CommandOption::(?:Number\((\w+)\)|(File|Folder|Folders|Line|Address|Flag) \{"
-        r'\s*name: "([\w-]+)",\s*help: "([^"]*)")'
-        r"|\b([A-Z_]{4,}),?"
-    )
+    row = rf"CommandOption::(?:Number\((\w+)\)|{ROW})|\b([A-Z_]{{4,}}),"
     return [
-        known[number or shared]
-        if number or shared
-        else Option(name, told, VALUES[kind], again=kind in REPEATED)
-        for number, kind, name, told, shared in re.findall(row, listed)
+        known[number or shared] if number or shared else option_of(*parts)
+        for number, *parts, shared in re.findall(row, listed)
     ]
 
 
@@ -86,7 +85,7 @@ def read_sections(text: str) -> list[Option]:
     arm = r'Section::(\w+) => "([^"]*)",'
     names = dict(re.findall(arm, text.split("pub fn name", 1)[1].split("pub fn ")[0]))
     helps = dict(re.findall(arm, text.split("pub fn help", 1)[1].split("pub fn ")[0]))
-    return [Option(names[it], helps[it], VALUES["Flag"]) for it in re.findall(r"\bSection::(\w+),", listed)]
+    return [Option(names[it], helps[it], "") for it in re.findall(r"\bSection::(\w+),", listed)]
 
 
 def read_commands() -> list[tuple[str, list[Option], str]]:

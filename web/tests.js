@@ -562,6 +562,143 @@ function snapshotRefusals(module) {
     want(refused(snapshot.subarray(0, 1000)) === 11, "a snapshot that is cut off is refused");
 }
 
+/** The text of a game after a line: up to the next read or the stop. */
+function said(game, line) {
+    want(game.line(line), `${line} is taken`);
+    game.turn();
+    return game.text();
+}
+
+/** A clone and its first game each show what a game alone shows, in whatever order they are played and closed. */
+function clones(module) {
+    const first = sizeOf(module);
+    const alone = (lines) => {
+        const game = module.open(example("lighthouse.z5"));
+        game.turn();
+        game.text();
+        const shown = lines.map((line) => said(game, line)).join("");
+        game.close();
+        return shown;
+    };
+    const game = module.open(example("lighthouse.z5"));
+    want(game.clone() === null, "there is no clone before the first turn");
+    game.turn();
+    want(game.waitingText() > 0, "text waits");
+    const early = game.clone();
+    want(early.waitingText() === 0 && early.waitingTranscript() === 0, "a clone has no text");
+    game.text();
+    want(game.waitingText() === 0, "no text waits once it was taken");
+    let shown = said(game, "undo on") + said(game, "north");
+    const late = game.clone();
+    want(late.place().states === game.place().states, "a clone has the same states to go back to");
+    want(late.place().instructions === 0n && game.place().instructions > 0n, "a clone counts its own instructions");
+    shown += said(game, "look");
+    game.close();
+    want(shown === alone(["undo on", "north", "look"]), "the first game");
+    want(said(early, "inventory") === alone(["inventory"]), "an early clone");
+    early.close();
+    want(said(late, "undo") + said(late, "inventory")
+        === alone(["undo on", "north", "undo", "inventory"]).slice(alone(["undo on", "north"]).length), "a late clone");
+    want(late.reseed(7n), "a clone gets other random numbers");
+    late.close();
+    wantAllFree(module, first, "clones");
+}
+
+/** Games of a story that is opened once show what games show that open it for themselves, and stay without it. */
+function shared(module) {
+    const first = sizeOf(module);
+    const bytes = example("lighthouse.z5");
+    const story = module.share(bytes);
+    const [one, other] = [story.open({ seed: 7, columns: 60 }), module.open(bytes, { seed: 7, columns: 60 })];
+    [one, other].forEach((game) => game.turn());
+    want(one.text() === other.text() && one.window().width === 60, "the opening of a game of a shared story");
+    want(said(one, "north") === said(other, "north"), "a turn of it");
+    const later = story.openSnapshot(one.snapshot());
+    later.turn();
+    const refused = (open) => refusalOf(open).number;
+    want(refused(() => story.openSnapshot(new Uint8Array(9))) === 8, "what is no snapshot is refused");
+    want(refused(() => story.open({ frames: 0 })) === 7, "a limit out of its range is refused");
+    want(refused(() => module.share(bytes.subarray(0, 63))) === 1, "what is no story is not shared");
+    story.close();
+    story.close();
+    try {
+        story.open();
+        want(false, "a closed story opens no game");
+    } catch (error) {
+        want(error.message === "the story is closed", "a closed story");
+    }
+    want(said(later, "look") === said(other, "look"), "a game from a snapshot of it");
+    [one, other, later].forEach((game) => game.close());
+    wantAllFree(module, first, "shared stories");
+}
+
+/** A turn step by step carries out what `zkit disasm` lists, and shows what the turn shows. */
+function steps(module) {
+    const file = path.join(EXAMPLES, "lighthouse.z5");
+    const code = new Set(run(["disasm", "--all", file]).shown.toString().split("\n"));
+    const [one, other] = [module.open(fs.readFileSync(file)), module.open(fs.readFileSync(file))];
+    let [awaited, count] = ["time", 0];
+    for (; awaited === "time"; count++) {
+        const { address } = one.place();
+        const { instruction, awaited: next } = one.step();
+        want(code.has(instruction) && parseInt(instruction, 16) === address, `the instruction ${instruction}`);
+        awaited = next;
+    }
+    other.turn();
+    want(awaited === "line" && count > 100, "the steps of the opening");
+    want(one.text() === other.text() && one.place().instructions === other.place().instructions, "its text");
+    want(one.instruction(0xffffffff) !== null, "an address past the story");
+    [one, other].forEach((game) => game.close());
+}
+
+/** A changed game has the change, and nothing that the story could not do is done. */
+function changes(module) {
+    const game = module.open(example("lighthouse.z5"));
+    want(!game.setWord(0x400, 7) && !game.moveObject(7, 8), "nothing is changed before the first read");
+    game.turn();
+    const base = game.memory(14, 2).reduce((sum, byte) => 256 * sum + byte);
+    const before = game.hash(0, base);
+    want(game.setWord(base - 2, 0xabcd) && game.memory(base - 2, 2).join() === "171,205", "the last word");
+    want(!game.setWord(base - 1, 7) && !game.setWord(base, 7) && !game.setWord(100, 65_536), "no such words");
+    want(game.hash(0, base) !== before, "the hash of a changed game");
+    const names = Array.from({ length: game.objects() }, (_, i) => game.object(i + 1).name);
+    const name = (words) => 1 + names.indexOf(words);
+    want(game.moveObject(name("letter"), name("yourself")), "an object is moved");
+    want(game.object(name("letter")).parent === name("yourself"), "it is there");
+    want(game.moveObject(name("letter"), 0) && game.object(name("letter")).parent === 0, "it is nowhere");
+    want(!game.moveObject(5_000, 1) && !game.moveObject(1, 70_000), "no such objects");
+    game.close();
+}
+
+/** The objects of a story as `zkit info --objects` lists them: number, name, parent, sibling and child. */
+function looks(module) {
+    for (const version of VERSIONS) {
+        const file = path.join(EXAMPLES, `lighthouse.z${version}`);
+        const story = fs.readFileSync(file);
+        const game = module.open(story, { coverage: true });
+        const listed = run(["info", "--objects", file]).shown.toString();
+        const names = Array.from({ length: game.objects() }, (_, i) => game.object(i + 1).name);
+        want(names.every((name) => listed.includes(name)), `${file}: the names of objects`);
+        want(names.length > 5 && names.some((name) => name === "Jetty"), `${file}: the number of objects`);
+        want(game.object(0) === null && game.object(65_536) === null, `${file}: no such objects`);
+        want(game.memory(0, 1)[0] === version && game.memory(story.length, 9).length === 0, `${file}: memory`);
+        want(game.hash(0, 0) === 0xcbf29ce484222325n, `${file}: the hash of nothing`);
+        want(game.coverage(0, story.length).every((mark) => mark === 0), `${file}: nothing was carried out`);
+        game.turn();
+        const { address, routines, reads } = game.place();
+        want(game.coverage(address, 1)[0] === 1, `${file}: the instruction that waits was carried out`);
+        want(game.routines().length === routines + 1 && reads === 0, `${file}: where it stands`);
+        const [main] = game.routines();
+        want(main.address === 0 && main.call === 0, `${file}: the routine that it begins in`);
+        const list = [];
+        for (let it = game.property(1, 0); it?.next; it = game.property(1, it.next))
+            list.push(it.next);
+        want(list.every((number, i) => i === 0 || number < list[i - 1]), `${file}: properties go down`);
+        want(game.property(1, 99) === null, `${file}: no such property`);
+        game.close();
+    }
+}
+
 /** Looks whether all that the memory has grown by can be had in one piece: then no game has kept any of it. */
 function wantAllFree(module, first, what) {
     const grown = sizeOf(module) - first;
@@ -966,7 +1103,8 @@ async function main() {
     const tests = [
         rows, examples, windows, listings, refusals, wordsOfReasons, refusedFiles, limits, seeds, inputs, commands,
         sums, figures, styles, widths, fonts, cells, keys, split, badArguments, firstCharacters, lastLines, blorbs,
-        snapshots, snapshotRefusals, thousand, large, full, refusedRequests, refusedCalls, worker, generated,
+        snapshots, snapshotRefusals, clones, shared, steps, changes, looks, thousand, large, full, refusedRequests,
+        refusedCalls, worker, generated,
     ];
     for (const test of NAMES.length === 0 ? tests : NAMES.map((name) => tests.find((it) => it.name === name))) {
         const begin = performance.now();

@@ -19,6 +19,7 @@
  * @property {boolean} [styles]  keeps the style of the text, for `nextRun` and `runs`, and tells the story of styles
  * @property {boolean} [keys]  takes keys in `character` too: KEYS
  * @property {number} [columns]  how many characters fit on a line of the screen, 20 to 255: the story is told
+ * @property {boolean} [coverage]  notes which instructions are carried out, for `coverage`
  */
 
 /**
@@ -43,6 +44,27 @@
 /** @typedef {{version: number, release: number, checksum: number, serial: string}} Story */
 
 /**
+ * Where a game stands, as `zkit_place` says.
+ * @typedef {{address: number, routines: number, words: number, states: number, steps: number, reads: number,
+ *     instructions: bigint}} Place
+ */
+
+/**
+ * An open routine, as `zkit_routine` says, with its local variables and the words of its evaluation stack, the oldest
+ * first. An address that is not known is 0.
+ * @typedef {{address: number, call: number, goesOn: number, arguments: number, locals: Uint16Array,
+ *     stack: Uint16Array}} Routine
+ */
+
+/**
+ * An object as it stands, with the numbers of its attributes.
+ * @typedef {{entry: number, parent: number, sibling: number, child: number, properties: number, attributes: number[],
+ *     name: string}} StoryObject
+ */
+
+/** @typedef {{next: number, address: number, length: number}} Property */
+
+/**
  * What the module exports. Addresses and sizes are of 64 bits, so they come as BigInt.
  * @typedef {object} Calls
  * @property {WebAssembly.Memory} memory
@@ -53,9 +75,15 @@
  * @property {(story: bigint, length: bigint, options: bigint, reason: bigint) => bigint} zkit_open
  * @property {(story: bigint, length: bigint, snapshot: bigint, snapshotLength: bigint, options: bigint,
  *     reason: bigint) => bigint} zkit_open_snapshot
+ * @property {(story: bigint, length: bigint, reason: bigint) => bigint} zkit_story_open
+ * @property {(shared: bigint, options: bigint, reason: bigint) => bigint} zkit_story_game
+ * @property {(shared: bigint, snapshot: bigint, length: bigint, options: bigint, reason: bigint) => bigint}
+ *     zkit_story_resume
+ * @property {(shared: bigint) => void} zkit_story_close
  * @property {(game: bigint) => void} zkit_close
  * @property {(game: bigint) => number} zkit_turn
  * @property {(game: bigint, steps: number) => number} zkit_turn_for
+ * @property {(game: bigint) => number} zkit_step
  * @property {Taking} zkit_text
  * @property {Taking} zkit_transcript
  * @property {(game: bigint, run: bigint) => void} zkit_next_run
@@ -79,6 +107,23 @@
  * @property {Copying} zkit_snapshot
  * @property {(game: bigint, undoBytes: bigint, buffer: bigint, length: bigint, needed: bigint) => number}
  *     zkit_snapshot_with_undo
+ * @property {(game: bigint, reason: bigint) => bigint} zkit_clone
+ * @property {(game: bigint, seed: bigint) => number} zkit_reseed
+ * @property {Numbered} zkit_coverage
+ * @property {(game: bigint) => bigint} zkit_waiting_text
+ * @property {(game: bigint) => bigint} zkit_waiting_transcript
+ * @property {(game: bigint, place: bigint) => void} zkit_place_of
+ * @property {(game: bigint, number: number, routine: bigint) => number} zkit_routine_of
+ * @property {Numbered} zkit_locals
+ * @property {Numbered} zkit_stack
+ * @property {Numbered} zkit_memory
+ * @property {(game: bigint, address: number, count: number) => bigint} zkit_hash
+ * @property {(game: bigint) => number} zkit_objects
+ * @property {(game: bigint, object: number, figures: bigint) => number} zkit_object_of
+ * @property {Numbered} zkit_object_name
+ * @property {(game: bigint, object: number, number: number, property: bigint) => number} zkit_property_of
+ * @property {(game: bigint, address: number, value: number) => number} zkit_set_word
+ * @property {(game: bigint, object: number, parent: number) => number} zkit_move_object
  * @property {(game: bigint, rows: number) => number} zkit_split
  * @property {(game: bigint, window: bigint) => void} zkit_window_of
  * @property {OfRow} zkit_row
@@ -90,11 +135,14 @@
  * @property {(game: bigint, story: bigint) => void} zkit_story_of
  * @property {(game: bigint, listing: number) => number} zkit_list
  * @property {(game: bigint, listing: number, most: bigint) => number} zkit_list_within
+ * @property {(game: bigint, address: number) => number} zkit_list_instruction
  * @property {Taking} zkit_listing
  */
 /** @typedef {(game: bigint, buffer: bigint, length: bigint) => bigint} Taking */
 /** @typedef {(game: bigint, bytes: bigint, length: bigint) => number} Giving */
+/** @typedef {(at: bigint[], sizes: bigint[], options: bigint, reason: bigint) => bigint} Opening */
 /** @typedef {(game: bigint, row: number, buffer: bigint, length: bigint) => bigint} OfRow */
+/** @typedef {(game: bigint, number: number, buffer: bigint, length: bigint) => bigint} Numbered */
 /** @typedef {(game: bigint, buffer: bigint, length: bigint, needed: bigint) => number} Copying */
 
 /** What `list` lists, in the order of the constants ZKIT_LIST_HEADER and so on. */
@@ -147,6 +195,10 @@ const BEFORE = ["erased", "high bleep", "low bleep"];
 const WINDOW_SIZE = 32;
 const FIGURES_SIZE = 24;
 const STORY_SIZE = 32;
+const PLACE_SIZE = 40;
+const ROUTINE_SIZE = 32;
+const OBJECT_SIZE = 40;
+const PROPERTY_SIZE = 24;
 const SIZE = 8;
 
 const GREATEST = 0xffff_ffff;
@@ -242,7 +294,8 @@ export class Module {
      */
     open(story, options = {}) {
         const bytes = bytesOf(story);
-        return this.game(bytes, [bytes.subarray(0, LONGEST_STORY)], options);
+        return this.game(bytes, [bytes.subarray(0, LONGEST_STORY)], options,
+            (at, sizes, ...rest) => this.calls.zkit_open(at[0], sizes[0], ...rest));
     }
 
     /**
@@ -254,21 +307,43 @@ export class Module {
      */
     openSnapshot(story, snapshot, options = {}) {
         const bytes = bytesOf(story);
-        return this.game(bytes, [bytes.subarray(0, LONGEST_STORY), bytesOf(snapshot)], options);
+        return this.game(bytes, [bytes.subarray(0, LONGEST_STORY), bytesOf(snapshot)], options,
+            (at, sizes, ...rest) => this.calls.zkit_open_snapshot(at[0], sizes[0], at[1], sizes[1], ...rest));
+    }
+
+    /**
+     * Opens a story for games to share its file, or throws Refused.
+     * @param {Uint8Array | ArrayBuffer} story
+     */
+    share(story) {
+        const bytes = bytesOf(story);
+        const buffer = this.calls.zkit_take(BigInt(BUFFER));
+        if (buffer === 0n)
+            throw new Refused(OPEN_NO_MEMORY, "out of memory");
+        const part = bytes.subarray(0, LONGEST_STORY);
+        const at = this.copied(part);
+        const shared = at === 0n ? 0n : this.calls.zkit_story_open(at, BigInt(part.length), buffer);
+        const reason = at === 0n ? OPEN_NO_MEMORY : this.view(buffer, 4).getUint32(0, true);
+        const words = shared === 0n ? this.wordsOfRefusal(reason, bytes, buffer) : "";
+        [at, buffer].filter((place) => place !== 0n).forEach((place) => this.calls.zkit_give(place));
+        if (shared === 0n)
+            throw new Refused(reason, words);
+        return new SharedStory(this, shared);
     }
 
     /**
      * @param {Uint8Array} story
      * @param {Uint8Array[]} files
      * @param {Options} options
+     * @param {Opening} open
      */
-    game(story, files, options) {
+    game(story, files, options, open) {
         // (what is no number throws here, before memory is taken)
         const seed = options.seed === undefined ? undefined : seedOf(options.seed);
         const buffer = this.calls.zkit_take(BigInt(BUFFER));
         if (buffer === 0n)
             throw new Refused(OPEN_NO_MEMORY, "out of memory");
-        const { game, reason } = this.opened(files, { ...options, seed }, buffer);
+        const { game, reason } = this.opened(files, { ...options, seed }, buffer, open);
         if (game !== 0n)
             return new Game(this, game, buffer);
         const words = this.wordsOfRefusal(reason, story, buffer);
@@ -338,12 +413,13 @@ export class Module {
     }
 
     /**
-     * The address of a game of a story and perhaps a snapshot; 0 and the reason where none is opened.
+     * The address of a game that is opened with copies of files; 0 and the reason where none is.
      * @param {Uint8Array[]} files
      * @param {Options} options
      * @param {bigint} buffer
+     * @param {Opening} open
      */
-    opened(files, options, buffer) {
+    opened(files, options, buffer, open) {
         const at = files.map((file) => this.copied(file));
         const sizes = files.map((file) => BigInt(file.length));
         let game = 0n;
@@ -351,8 +427,7 @@ export class Module {
         if (!at.includes(0n)) {
             const words = this.optionsAt(buffer, options);
             const told = buffer + BigInt(OPTIONS_SIZE);
-            game = at.length === 1 ? this.calls.zkit_open(at[0], sizes[0], words, told)
-                : this.calls.zkit_open_snapshot(at[0], sizes[0], at[1], sizes[1], words, told);
+            game = open(at, sizes, words, told);
             reason = this.view(told, 4).getUint32(0, true);
         }
         at.filter((place) => place !== 0n).forEach((place) => this.calls.zkit_give(place));
@@ -379,6 +454,7 @@ export class Module {
         view.setUint32(44, options.keys ? 1 : 0, true);
         if (options.columns !== undefined)
             view.setUint32(48, whole(options.columns), true);
+        view.setUint32(52, options.coverage ? 1 : 0, true);
         return at;
     }
 
@@ -409,6 +485,53 @@ export class Module {
      */
     view(at, length) {
         return new DataView(this.calls.memory.buffer, Number(at), length);
+    }
+}
+
+/** A story that is opened once, and whose games share its file. `Module.share` makes it. */
+export class SharedStory {
+    /**
+     * @param {Module} module
+     * @param {bigint} handle
+     */
+    constructor(module, handle) {
+        this.module = module;
+        this.handle = handle;
+    }
+
+    /** The story's address, while it is open. */
+    get at() {
+        if (this.handle === 0n)
+            throw new Error("the story is closed");
+        return this.handle;
+    }
+
+    /**
+     * Opens a game at the start, or throws Refused.
+     * @param {Options} [options]
+     */
+    open(options = {}) {
+        const { at } = this;
+        return this.module.game(new Uint8Array(), [], options,
+            (_at, _sizes, ...rest) => this.module.calls.zkit_story_game(at, ...rest));
+    }
+
+    /**
+     * Opens a game that goes on from a snapshot, as `Module.openSnapshot` does.
+     * @param {Uint8Array | ArrayBuffer} snapshot
+     * @param {Options} [options]
+     */
+    openSnapshot(snapshot, options = {}) {
+        const { at } = this;
+        return this.module.game(new Uint8Array(), [bytesOf(snapshot)], options,
+            (files, sizes, ...rest) => this.module.calls.zkit_story_resume(at, files[0], sizes[0], ...rest));
+    }
+
+    /** Gives back what the story has for itself. Its games stay. */
+    close() {
+        const { handle } = this;
+        this.handle = 0n;
+        this.module.calls.zkit_story_close(handle);
     }
 }
 
@@ -444,6 +567,16 @@ export class Game {
         const awaited = steps === undefined ? this.calls.zkit_turn(this.at)
             : this.calls.zkit_turn_for(this.at, whole(steps));
         return AWAITED[awaited];
+    }
+
+    /**
+     * Carries out one instruction: its line, as `zkit disasm` shows it, and what the story awaits then. The line is
+     * null where there is no memory for it.
+     * @returns {{instruction: string | null, awaited: Awaited}}
+     */
+    step() {
+        const instruction = this.instruction(this.place().address);
+        return { instruction, awaited: this.turn(1) };
     }
 
     /** All text that waits. */
@@ -574,6 +707,180 @@ export class Game {
     snapshot(undoBytes = 0) {
         const most = BigInt(whole(undoBytes));
         return this.copied((game, ...rest) => this.calls.zkit_snapshot_with_undo(game, most, ...rest));
+    }
+
+    /** A second game that goes on from here, where the story awaits a line or a character; else null. */
+    clone() {
+        const buffer = this.calls.zkit_take(BigInt(BUFFER));
+        if (buffer === 0n)
+            return null;
+        const game = this.calls.zkit_clone(this.at, buffer);
+        if (game !== 0n)
+            return new Game(this.module, game, buffer);
+        this.calls.zkit_give(buffer);
+        return null;
+    }
+
+    /**
+     * Begins the random numbers anew, and says whether that was done: where a line or a character is awaited.
+     * @param {bigint | number} seed
+     */
+    reseed(seed) {
+        return this.calls.zkit_reseed(this.at, seedOf(seed)) === DONE;
+    }
+
+    /** How many bytes of text wait to be taken. */
+    waitingText() {
+        return Number(this.calls.zkit_waiting_text(this.at));
+    }
+
+    /** How many bytes of the transcript wait to be taken. */
+    waitingTranscript() {
+        return Number(this.calls.zkit_waiting_transcript(this.at));
+    }
+
+    /**
+     * Where the game stands.
+     * @returns {Place}
+     */
+    place() {
+        this.sized(PLACE_SIZE);
+        this.calls.zkit_place_of(this.at, this.buffer);
+        const [address, routines, words, states, steps, reads] = this.numbers(6);
+        const instructions = this.module.view(this.buffer + 32n, 8).getBigUint64(0, true);
+        return { address, routines, words, states, steps, reads, instructions };
+    }
+
+    /**
+     * The open routines, that which the story begins in first.
+     * @returns {Routine[]}
+     */
+    routines() {
+        return Array.from({ length: this.place().routines + 1 }, (_, number) => {
+            this.sized(ROUTINE_SIZE);
+            this.calls.zkit_routine_of(this.at, number, this.buffer);
+            const [address, call, goesOn, locals, words, given] = this.numbers(6);
+            return {
+                address,
+                call,
+                goesOn,
+                arguments: given,
+                locals: this.wordsBy(number, locals, this.calls.zkit_locals),
+                stack: this.wordsBy(number, words, this.calls.zkit_stack),
+            };
+        });
+    }
+
+    /**
+     * So many words that a call puts into a buffer.
+     * @param {number} number
+     * @param {number} count
+     * @param {Numbered} put
+     */
+    wordsBy(number, count, put) {
+        const bytes = this.bytesBy(number, count, 2, put);
+        return new Uint16Array(bytes.buffer, 0, bytes.length / 2);
+    }
+
+    /**
+     * What a call puts into a buffer for so many items of a size; fewer where there are not so many, none where there
+     * is no memory.
+     * @param {number} number
+     * @param {number} count
+     * @param {number} size
+     * @param {Numbered} put
+     */
+    bytesBy(number, count, size, put) {
+        const handle = this.at;
+        const at = this.calls.zkit_take(BigInt(size * count));
+        if (at === 0n)
+            return new Uint8Array();
+        const there = Number(put(handle, whole(number), at, BigInt(count)));
+        const bytes = this.module.bytes(at, size * there).slice();
+        this.calls.zkit_give(at);
+        return bytes;
+    }
+
+    /**
+     * So many bytes of memory from an address on, as they are now, or as many as there are.
+     * @param {number} address
+     * @param {number} count
+     */
+    memory(address, count) {
+        return this.bytesBy(address, whole(count), 1, this.calls.zkit_memory);
+    }
+
+    /**
+     * The hash of so many bytes of memory from an address on, as they are now.
+     * @param {number} address
+     * @param {number} count
+     */
+    hash(address, count) {
+        return BigInt.asUintN(64, this.calls.zkit_hash(this.at, whole(address), whole(count)));
+    }
+
+    /**
+     * So many marks from an address on, of a game with the option `coverage`: 1 where an instruction begins that was
+     * carried out.
+     * @param {number} address
+     * @param {number} count
+     */
+    coverage(address, count) {
+        return this.bytesBy(address, whole(count), 1, this.calls.zkit_coverage);
+    }
+
+    /** How many objects the story has. */
+    objects() {
+        return this.calls.zkit_objects(this.at);
+    }
+
+    /**
+     * An object as it stands, or null where there is none.
+     * @param {number} object
+     * @returns {StoryObject | null}
+     */
+    object(object) {
+        this.sized(OBJECT_SIZE);
+        if (this.calls.zkit_object_of(this.at, whole(object), this.buffer) !== DONE)
+            return null;
+        const [entry, parent, sibling, child, properties] = this.numbers(5);
+        const bits = this.module.bytes(this.buffer + 28n, 8).slice();
+        const attributes = Array.from({ length: 64 }, (_, i) => i).filter((i) => bits[i >> 3] >> 7 - (i & 7) & 1);
+        const name = this.string(this.calls.zkit_object_name(this.at, object, this.buffer, BigInt(BUFFER)));
+        return { entry, parent, sibling, child, properties, attributes, name };
+    }
+
+    /**
+     * A property of an object, or null where there is none. Number 0 tells the first one as its `next`.
+     * @param {number} object
+     * @param {number} number
+     * @returns {Property | null}
+     */
+    property(object, number) {
+        this.sized(PROPERTY_SIZE);
+        if (this.calls.zkit_property_of(this.at, whole(object), whole(number), this.buffer) !== DONE)
+            return null;
+        const [next, address, length] = this.numbers(3);
+        return { next, address, length };
+    }
+
+    /**
+     * Gives a word of dynamic memory a value, as the story could, and says whether that was done: where a line or a
+     * character is awaited.
+     * @param {number} address
+     * @param {number} value
+     */
+    setWord(address, value) {
+        return this.calls.zkit_set_word(this.at, whole(address), whole(value)) === DONE;
+    }
+
+    /**
+     * Puts an object into another one, or for 0 into none, in the same way.
+     * @param {number} object
+     * @param {number} parent
+     */
+    moveObject(object, parent) {
+        return this.calls.zkit_move_object(this.at, whole(object), whole(parent)) === DONE;
     }
 
     /**
@@ -727,6 +1034,16 @@ export class Game {
         const answer = most === undefined ? this.calls.zkit_list(this.at, number)
             : this.calls.zkit_list_within(this.at, number, BigInt(whole(most)));
         return answer === DONE ? decoder().decode(this.taken(this.calls.zkit_listing)) : null;
+    }
+
+    /**
+     * The line of the instruction at an address of memory as it is now, as `zkit disasm` shows it; null where there is
+     * no memory for it, or its text has too many words.
+     * @param {number} address
+     */
+    instruction(address) {
+        const answer = this.calls.zkit_list_instruction(this.at, whole(address));
+        return answer === DONE ? decoder().decode(this.taken(this.calls.zkit_listing)).trimEnd() : null;
     }
 
     /**

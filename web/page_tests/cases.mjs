@@ -220,23 +220,10 @@ async function reloadOfAnotherModule(page) {
     same(await page.transcript(), native(["play", "--echo", MENU], "roll\nroll\nroll\n").text, "the transcript");
 }
 
-/** Sets a seed, and begins the story anew. */
-async function seeded(page, seed) {
-    await page.click("#show-menu");
-    await page.fill("seed", seed);
-    await page.click("#restart");
-    await page.until(() => document.getElementById("asking").open || !document.querySelector("dialog[open]"));
-    if (await page.isShown("asking"))
-        await page.click("#asking-yes");
-    await page.until(() => !document.querySelector("dialog[open]")
-        && !document.getElementById("scroller").textContent.includes(">roll"));
-    await page.rests();
-}
-
 async function link(page) {
     await page.fresh();
     await page.open(MENU);
-    await seeded(page, "7");
+    await page.restart(() => page.fill("seed", "7"));
     await page.sayAll(["roll", "é", "roll", "menu"]);
     for (const key of ["n", "Enter", "q"]) {
         await page.browser.press(key);
@@ -644,7 +631,7 @@ async function restartAndSeed(page) {
     await page.until(() => !document.querySelector("dialog[open]"));
     same(await page.transcript(), native(["play", "--echo", MENU], "roll\n").text,
         "the transcript of a play that goes on");
-    await seeded(page, "12");
+    await page.restart(() => page.fill("seed", "12"));
     await page.say("roll");
     same(await page.transcript(), native(["play", "--echo", "--seed", "12", MENU], "roll\n").text, "the transcript");
 }

@@ -119,6 +119,14 @@ async function staysWithinPolicy(page) {
     same(await own.run(() => window.ran ?? false), false, "whether another script runs");
 }
 
+/** The text and the size of the picture on the title page. */
+function coverOf(own) {
+    return own.run(() => {
+        const { alt, naturalWidth, naturalHeight } = document.getElementById("front-cover");
+        return [alt, naturalWidth, naturalHeight].join();
+    });
+}
+
 /** Where there is a cover or a blurb, a page with the title, the author and a button comes first. */
 async function titlePage(page) {
     const own = ownPage(page, { ...NAMED, blurb: BLURB, cover: picture(120, 180) });
@@ -130,11 +138,7 @@ async function titlePage(page) {
     const blurb = await own.run(() =>
         [...document.querySelectorAll("#front-blurb p")].map((it) => it.innerText).join("|"));
     same(blurb, "The lamp has gone out.|Nobody on the island knows why.", "the paragraphs");
-    const cover = await own.run(() => {
-        const { alt, naturalWidth, naturalHeight } = document.getElementById("front-cover");
-        return [alt, naturalWidth, naturalHeight].join();
-    });
-    same(cover, "Cover of Salt & <i>Sky</i>,120,180", "the cover");
+    same(await coverOf(own), "Cover of Salt & <i>Sky</i>,120,180", "the cover");
     for (const id of ["play", "welcome", "head"])
         same(await own.isShown(id), false, `whether ${id} is shown`);
     same(await own.told(), "", "what is told");
@@ -160,9 +164,7 @@ async function titlePage(page) {
         await own.say("inventory");
     }
     same(await own.run(typedLines), "look,inventory,inventory,inventory", "the lines that were typed");
-    await own.menu("restart");
-    await own.click("#asking-yes");
-    await own.until(() => !document.querySelector("#scroller .typed"));
+    await own.restart();
     same(await own.focus(), "line 0", "the focus after a restart");
 }
 
@@ -265,7 +267,7 @@ async function walkthrough(page) {
     await told(own, "This is the walkthrough. Continue from here, or from any of its lines.");
     await own.rests();
     same(await own.focus(), "line 0", "the focus and the caret");
-    holds(await own.newestIsSeen(), "the newest turn is not seen");
+    await own.seesNewest("the newest turn is not seen");
     const lines = ["roll", "# odd", "", "menu", "n", "", "q", "roll"];
     const shown = (await own.transcript()).split("\n").filter((line) => line.startsWith(">")).join();
     same(shown, ">roll,># odd,>,>menu,>roll,>", "the lines of the walkthrough");

@@ -175,9 +175,14 @@ export class Page {
         await this.browser.touch(...await this.until(placeInPage, selector));
     }
 
-    /** Whether the newest turn is seen from its line on: as much of it as the view takes. */
-    newestIsSeen() {
-        return this.run(newestIsSeen);
+    /**
+     * Waits until the newest turn is seen from its line on, as much of it as the view takes: the page scrolls once it is
+     * drawn. Where it never is, these words tell it.
+     */
+    async seesNewest(words) {
+        await this.until(newestIsSeen).catch(() => {
+            throw new Error(words);
+        });
     }
 
     /** Notes from now on what a screen reader speaks. */
@@ -192,6 +197,12 @@ export class Page {
         return { log: of("log").join(""), said: of("spoken").join("|"), told: of("told").join("|") };
     }
 
+    /** The texts of the log that were spoken one after the other since this was asked before. */
+    async heardParts() {
+        const all = await this.run(() => window.spoken.splice(0));
+        return all.filter(([region]) => region === "log").map(([, text]) => text);
+    }
+
     /** What has the focus, and where the caret is in it. */
     focus() {
         return this.run(() => {
@@ -204,6 +215,23 @@ export class Page {
     async menu(id) {
         await this.click("#show-menu");
         await this.click(`#${id}`);
+    }
+
+    /**
+     * Begins the story anew by the menu, in which something may be set before, and agrees where that is asked. A story
+     * without a line looks the same before and after: it has begun anew once the text that was there is gone.
+     */
+    async restart(sets = async () => {}) {
+        await this.run(() =>
+            [...document.getElementById("log").children].forEach((it) => it.classList.add("of-before")));
+        await this.click("#show-menu");
+        await sets();
+        await this.click("#restart");
+        await this.until(() => document.getElementById("asking").open || !document.querySelector(".of-before"));
+        if (await this.isShown("asking"))
+            await this.click("#asking-yes");
+        await this.until(() => !document.querySelector(".of-before, dialog[open]"));
+        await this.rests();
     }
 
     /** Opens the list of lines, which comes once its link is made. */

@@ -106,14 +106,14 @@ async function walked(page) {
     await page.click("#example");
     await page.rests();
     await page.sayAll(WALK);
-    holds(await page.newestIsSeen(), "the newest turn is not seen while it is played");
+    await page.seesNewest("the newest turn is not seen while it is played");
     await page.keeps(WALK.length);
 }
 
 /** What a page shows that goes on with a play: its newest turn, its line with the caret, its rows by its width. */
 async function goesOnInSight(page, what) {
     await page.rests();
-    holds(await page.newestIsSeen(), `the newest turn is not seen ${what}`);
+    await page.seesNewest(`the newest turn is not seen ${what}`);
     same(await page.focus(), "line 0", `the focus ${what}`);
     const isNarrow = await page.run(() => innerWidth < 600);
     same(await page.run(() => document.querySelectorAll("#upper .grid").length), isNarrow ? 0 : 1, `the grids ${what}`);
@@ -197,7 +197,7 @@ async function repeatsAtOnce(page) {
     const seen = await page.run(() => window.seen);
     same(seen.snapshots, 1, "the number of snapshots that were taken");
     holds(seen.drawn <= 41, `${seen.drawn} parts were drawn`);
-    holds(await page.newestIsSeen(), "the newest turn is not seen");
+    await page.seesNewest("the newest turn is not seen");
     same(await page.focus(), "line 0", "the focus and the caret");
     same(await page.transcript(), text(1000), "the transcript");
     await page.lines();
@@ -220,7 +220,7 @@ async function goesFromNearest(page) {
     for (const line of [4, 3]) {
         await backTo(page, line);
         same(await page.focus(), "line 0", `the focus before line ${line}`);
-        holds(await page.newestIsSeen(), `the newest turn is not seen before line ${line}`);
+        await page.seesNewest(`the newest turn is not seen before line ${line}`);
     }
     holds(!(await page.run(() => window.seen.calls)).includes("open"), "the story was begun again");
     const text = (...lines) => native(["play", "--echo", Z5], lines.map((it) => `${it}\n`).join("")).text;
@@ -359,10 +359,8 @@ async function hearsParts(page) {
     await page.hear();
     await page.drop(counting("Done.\nNow what?\n>", "First.\nWait"), "parts.z5");
     await page.until(() => document.getElementById("scroller").textContent.includes("First."));
-    const first = (await page.heard()).log;
-    same(first, "First.", "what is spoken while the story runs");
     await page.rests();
-    same(first + (await page.heard()).log, "First.\nWaitDone.\nNow what?\n", "what is spoken in all");
+    same((await page.heardParts()).join("|"), "First.|\nWaitDone.\nNow what?\n", "what is spoken part by part");
     await page.say("go");
     same((await page.heard()).log, ">go\nFirst.\nWaitDone.\nNow what?\n", "what is spoken of the next turn");
 }
@@ -400,7 +398,7 @@ async function keyboardOnScreen(page) {
             await page.browser.size(360, height);
             await page.until((it) => Math.abs(innerHeight - it) < 100, height);
             await pause(100);
-            holds(await page.newestIsSeen(), `the newest turn is not seen in a view of ${height} pixels`);
+            await page.seesNewest(`the newest turn is not seen in a view of ${height} pixels`);
         }
         await page.browser.press("PageUp");
         await pause(100);
@@ -430,7 +428,7 @@ async function keyboardOverPage(page) {
         const whole = await bottom();
         await page.run(lowerInPage, 330, 1);
         await page.until(() => document.getElementById("ask").getBoundingClientRect().bottom <= 330);
-        holds(await page.newestIsSeen(), "the newest turn is not seen above the keyboard");
+        await page.seesNewest("the newest turn is not seen above the keyboard");
         await typesOn(page, "look", "above the keyboard");
         await page.run(lowerInPage, 200, 2);
         same(await bottom(), whole, "the end of the page where the reader has zoomed in");
@@ -447,7 +445,7 @@ async function onItsSide(page) {
         const top = () => page.run(() => document.getElementById("upper").getBoundingClientRect().top);
         holds(await top() < 16, `the status line is at ${await top()}`);
         holds(await page.run(linesSeen) >= 5, `${await page.run(linesSeen)} lines are seen`);
-        holds(await page.newestIsSeen(), "the newest turn is not seen");
+        await page.seesNewest("the newest turn is not seen");
         await page.tap("#undo");
         await page.until((count) => document.querySelectorAll("#scroller .typed").length === count, WALK.length - 1);
         await page.tap("#show-menu");
@@ -753,7 +751,7 @@ async function recentStories(page) {
         await page.until(() => document.getElementById("title").title === "lighthouse.z5");
         await page.rests();
         same(await page.text("title"), "The Lamp on Skärvø", "the head");
-        holds(await page.newestIsSeen(), `the newest turn is not seen after a story was chosen by ${how}`);
+        await page.seesNewest(`the newest turn is not seen after a story was chosen by ${how}`);
         await typesOn(page, "look", `after a story was chosen by ${how}`);
         await page.menu("open");
         await choose(page, "#recent-list li:last-child button");

@@ -36,7 +36,7 @@ async function goneOn(page) {
 
 /** The newest turn is seen, what is typed goes to the line, and nothing is wider than the view. */
 async function inSight(page, what) {
-    holds(await page.newestIsSeen(), `the newest turn is not seen ${what}`);
+    await page.seesNewest(`the newest turn is not seen ${what}`);
     same(await page.focus(), "line 0", `the focus ${what}`);
     await fits(page, what);
 }

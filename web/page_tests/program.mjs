@@ -77,7 +77,7 @@ async function playsMade(own) {
     same(await own.focus(), "line 0", "the focus after Play");
     holds((await own.heard()).log.startsWith("It is November"), "the start of the story is not spoken");
     await own.sayAll(["open bag", "north"]);
-    holds(await own.newestIsSeen(), "the newest turn is not seen");
+    await own.seesNewest("the newest turn is not seen");
     same(await own.transcript(), native(["play", "--echo", Z5], "open bag\nnorth\n").text, "the transcript");
     await own.keeps(2);
     await own.reload();

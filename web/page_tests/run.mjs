@@ -69,36 +69,45 @@ async function runCase(page, name, does) {
     }
 }
 
-/** Runs a case, and once more where it fails: what is wrong with the page fails again, and a slow machine may not. */
-async function runTwice(browser, options, name, does, version) {
-    const first = await runCase(new Page(browser, options.page), name, does);
-    if (first[0] || first[1].includes(LATE))
-        return first;
-    console.log(`once more, ${version}: ${first[1]}`);
-    return runCase(new Page(browser, options.page), name, does);
-}
-
+/** Runs cases in a browser of their own: how many errors there were, and which cases failed. */
 async function runBrowser(Browser, options, cases) {
     const browser = await inTime(Browser.launch());
     const version = await inTime(browser.version());
-    let failed = 0;
+    const failed = [];
     try {
         await browser.size(...SIZE);
-        for (const [name, does] of cases) {
-            const [passed, words] = await runTwice(browser, options, name, does, version);
-            failed += passed ? 0 : 1;
+        for (const it of cases) {
+            const [passed, words] = await runCase(new Page(browser, options.page), ...it);
             console.log(`${passed ? "ok  " : "FAIL"} ${version}: ${words}`);
+            if (!passed)
+                failed.push(it);
             if (words.includes(LATE))
-                break;
+                return { errors: 1, failed: [] };
         }
-        for (const error of browser.errors().filter((it) => !it.includes("Content Security Policy"))) {
-            failed++;
-            console.log(`FAIL ${version}: an error in the page: ${error}`);
-        }
+        const errors = browser.errors().filter((it) => !it.includes("Content Security Policy"));
+        errors.forEach((it) => console.log(`FAIL ${version}: an error in the page: ${it}`));
+        return { errors: errors.length, failed };
     } finally {
         await inTime(browser.close());
     }
-    return failed;
+}
+
+/**
+ * Runs cases in all browsers at a time, and those that failed once more in one browser after the other: what is wrong
+ * with the page fails again, and what was short of time on a slow machine does not. Gives how many failed.
+ */
+async function runAll(browsers, options, cases) {
+    const first = await Promise.all(browsers.map((Browser) => runBrowser(Browser, options, cases)));
+    let sum = 0;
+    for (const [i, { errors, failed }] of first.entries()) {
+        sum += errors;
+        if (failed.length === 0)
+            continue;
+        console.log(`once more, with no other browser beside: ${failed.map(([name]) => name).join(", ")}`);
+        const second = await runBrowser(browsers[i], options, failed);
+        sum += second.errors + second.failed.length;
+    }
+    return sum;
 }
 
 export async function main(words) {
@@ -116,8 +125,8 @@ export async function main(words) {
     const cases = [...CASES, ...games].filter(([name]) => name.includes(options.case));
     const began = Date.now();
     const tools = options.case ? [] : TOOLS.map(runTool);
-    const failed = await Promise.all(here.map(([Browser]) => runBrowser(Browser, options, cases)));
-    const sum = [...tools, ...failed].reduce((all, count) => all + count, 0);
+    const found = tools.reduce((all, count) => all + count, 0);
+    const sum = found + await runAll(here.map(([Browser]) => Browser), options, cases);
     const seconds = Math.round((Date.now() - began) / 1000);
     console.log(`${here.length} browsers, ${cases.length} tests each, ${sum} failed, ${seconds} s`);
     return sum > 0 ? 1 : 0;

@@ -111,7 +111,7 @@ async function statusLine(page) {
             same(await page.focus(), "line 0", `${what}: the focus`);
             await page.say("styles");
             wantReverse(await upperOf(page), 0, statusOf(1, columns), columns, `${what}, after a line`);
-            holds(await page.newestIsSeen(), `${what}: the newest turn is not seen`);
+            await page.seesNewest(`${what}: the newest turn is not seen`);
             found.push(columns);
         });
     return `${found.join(", ")} columns`;
@@ -227,7 +227,7 @@ async function erased(page) {
             await page.say("clear");
             for (let i = 0; i < 12; i++)
                 await page.say("nothing");
-            holds(await page.newestIsSeen(), "the newest turn is not seen below an erasure");
+            await page.seesNewest("the newest turn is not seen below an erasure");
         });
 }
 
@@ -289,17 +289,6 @@ async function reloaded(page, size) {
     return upperOf(page);
 }
 
-/** Begins the story anew. */
-async function restarted(page) {
-    await page.menu("restart");
-    await page.until(() => document.getElementById("asking").open || !document.querySelector("dialog[open]"));
-    if (await page.isShown("asking"))
-        await page.click("#asking-yes");
-    await page.until(() => !document.querySelector("dialog[open]")
-        && !document.getElementById("scroller").textContent.includes("80 columns"));
-    await page.rests();
-}
-
 /** A play that goes on from a snapshot keeps its width in a page of another one, and so where the reader goes back. */
 async function otherPage(page) {
     await page.browser.size(...WIDE);
@@ -324,7 +313,7 @@ async function otherPage(page) {
         await page.until(() => document.querySelectorAll("#scroller .typed").length === 0);
         await page.rests();
         same(await toldColumns(page), 80, "the columns where the reader has gone back to the start");
-        await restarted(page);
+        await page.restart();
         const columns = await toldColumns(page);
         holds(columns < 80, `${columns} columns are told after a new start in a narrow page`);
         wantReverse(await upperOf(page), 0, statusOf(0, columns), columns, "the status line after a new start");

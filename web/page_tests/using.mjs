@@ -427,14 +427,7 @@ async function seeds(page) {
         ["18446744073709551616", "1"],
         ["twelve", "1"], ["0", "0"]];
     for (const [typed, seed] of tries) {
-        await page.click("#show-menu");
-        await page.fill("seed", typed);
-        await page.click("#restart");
-        await page.until(() => document.getElementById("asking").open || !document.querySelector("dialog[open]"));
-        if (await page.isShown("asking"))
-            await page.click("#asking-yes");
-        await page.until(() => !document.querySelector("#scroller .typed"));
-        await page.rests();
+        await page.restart(() => page.fill("seed", typed));
         await page.say("roll");
         same(await page.transcript(), native(["play", "--echo", "--seed", seed, MENU], "roll\n").text,
             `the seed ${typed}`);
