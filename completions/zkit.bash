@@ -37,7 +37,7 @@ _zkit() {
         return
     fi
     case $before in
-        --frames | --words | --undo | --steps | --at | --routine | --title | --author) return ;;
+        --frames | --words | --undo | --steps | --at | --routine | --around | --depth | --title | --author) return ;;
         --seed) _zkit_words any; return ;;
         --save | --script | --record | --cover | --names | --files-from | --story | --lcov | --html | --blurb | --walkthrough) _zkit_all -f; return ;;
         --saves | --source) _zkit_all -d; return ;;
@@ -52,25 +52,25 @@ _zkit() {
             ;;
         info)
             case $word in
-                -*) _zkit_words "--header --map --abbreviations --dictionary --objects --tree --ifid --strings --properties --globals --alphabets --extension --notes --graph --svg --rows --json --recursive --files-from --help" ;;
+                -*) _zkit_words "--header --map --abbreviations --dictionary --objects --tree --ifid --strings --properties --globals --alphabets --extension --names --notes --graph --svg --rows --json --recursive --files-from --help" ;;
                 *) _zkit_files 'z3|z4|z5|z8|zblorb|zlb|blorb|blb' ;;
             esac
             ;;
         disasm)
             case $word in
-                -*) _zkit_words "--all --at --routine --cover --notes --graph --help" ;;
+                -*) _zkit_words "--all --at --routine --only --cover --names --source --callers --notes --graph --around --depth --help" ;;
                 *) _zkit_files 'z3|z4|z5|z8|zblorb|zlb|blorb|blb' ;;
             esac
             ;;
         check)
             case $word in
-                -*) _zkit_words "--notes --summary --rows --json --recursive --files-from --help" ;;
+                -*) _zkit_words "--names --notes --summary --rows --json --recursive --files-from --help" ;;
                 *) _zkit_files 'z3|z4|z5|z8|zblorb|zlb|blorb|blb' ;;
             esac
             ;;
         test)
             case $word in
-                -*) _zkit_words "--files-from --story --bless --cover --names --help" ;;
+                -*) _zkit_words "--files-from --story --bless --cover --names --strict --help" ;;
                 *) _zkit_files 'walkthrough' ;;
             esac
             ;;

@@ -39,7 +39,7 @@ case $words[1] in
             '--record=[Records the commands to this file as a walkthrough, emptied first]:file:_files' \
             '--calls[Prints the call stack after a fault or limit]' \
             '--cover=[Adds the addresses of executed instructions to this coverage file]:file:_files' \
-            '--names=[Names routines and source lines by this debugging file, which `inform6 -k` writes]:file:_files' \
+            '--names=[Takes names and lines of the source from this debugging file, which `inform6 -k` writes]:file:_files' \
             '(- *)--help[Shows help]' \
             '1:story:_files -g "(#i)*.(z3|z4|z5|z8|zblorb|zlb|blorb|blb)(-.)"'
         ;;
@@ -57,6 +57,7 @@ case $words[1] in
             '--globals[Lists the global variables with their first values]' \
             '--alphabets[Lists the letters of the alphabets, and the extra characters]' \
             '--extension[Lists the header extension table]' \
+            '--names=[Takes names and lines of the source from this debugging file, which `inform6 -k` writes]:file:_files' \
             '--notes[Adds explanations]' \
             '--graph[Prints the tree of objects as a Graphviz graph]' \
             '--svg[Prints the map as an SVG picture]' \
@@ -70,16 +71,23 @@ case $words[1] in
     disasm)
         _arguments \
             '--all[Also lists unreached routines]' \
-            '*--at=[Also disassembles from the instruction at this byte address]:address: ' \
-            '*--routine=[Also disassembles the routine at this byte address]:address: ' \
+            '*--at=[Also disassembles from the instruction at this byte address; with --names, at this FILE\:LINE]:address: ' \
+            '*--routine=[Also disassembles the routine at this byte address; with --names, of this name]:address: ' \
+            '--only[Lists only the routines that --routine names, or that have an instruction of --at]' \
             '--cover=[Also disassembles from the addresses in this coverage file, and marks them]:file:_files' \
+            '--names=[Takes names and lines of the source from this debugging file, which `inform6 -k` writes]:file:_files' \
+            '*--source=[Shows the lines of the source, from the files in this folder; needs --names]:folder:_files -/' \
+            '--callers[Heads each routine with the instructions that call it]' \
             '--notes[Adds explanations]' \
             '--graph[Prints the call graph, for Graphviz]' \
+            '--around=[With --graph, draws only this routine, what calls it and what it calls]:routine: ' \
+            '--depth=[How many calls away --around goes, 1 to 99; without this option 1]:n: ' \
             '(- *)--help[Shows help]' \
             '1:story:_files -g "(#i)*.(z3|z4|z5|z8|zblorb|zlb|blorb|blb)(-.)"'
         ;;
     check)
         _arguments \
+            '--names=[Takes names and lines of the source from this debugging file, which `inform6 -k` writes]:file:_files' \
             '--notes[Adds explanations]' \
             '--summary[Adds a count of all findings, by kind]' \
             '--rows[Prints tab-separated rows, one fact a line, the path first]' \
@@ -95,13 +103,14 @@ case $words[1] in
             '--story=[Default story, for walkthroughs that name none]:file:_files' \
             '--bless[Writes the expected transcripts instead of comparing them]' \
             '--cover=[Adds the addresses of executed instructions to this coverage file]:file:_files' \
-            '--names=[Names routines and source lines by this debugging file, which `inform6 -k` writes]:file:_files' \
+            '--names=[Takes names and lines of the source from this debugging file, which `inform6 -k` writes]:file:_files' \
+            '--strict[Plays once more, slowly, and fails at accesses outside arrays and other misuses]' \
             '(- *)--help[Shows help]' \
             '*:path:_files -g "(#i)*.(walkthrough)(-.)"'
         ;;
     cover)
         _arguments \
-            '--names=[Names routines and source lines by this debugging file, which `inform6 -k` writes]:file:_files' \
+            '--names=[Takes names and lines of the source from this debugging file, which `inform6 -k` writes]:file:_files' \
             '*--source=[Looks for the files of the source in this folder]:folder:_files -/' \
             '--lcov=[Writes the coverage to this file, for lcov]:file:_files' \
             '--html=[Writes the coverage to this file, as a page for browsers]:file:_files' \
