@@ -278,7 +278,10 @@ export class Page {
         }), count);
     }
 
+    /** Chooses a file; a saved game in the window with the button for it, which is open only once it takes one. */
     async choose(path, id = "story-file") {
+        if (id === "saved-file")
+            await this.shown("restoring");
         await this.browser.choose(id, path);
     }
 
