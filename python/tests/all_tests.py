@@ -3,6 +3,7 @@
 from __future__ import annotations
 
 import os
+import signal
 import sys
 import time
 import unittest
@@ -14,6 +15,8 @@ HERE = Path(__file__).resolve().parent
 def main() -> int:
     """Runs all tests, or those that the command line names, and answers 0 if all of them pass."""
     os.chdir(HERE.parent.parent)
+    # (what is begun in the background without a terminal has no Ctrl-C, and nor have its children)
+    signal.signal(signal.SIGINT, signal.default_int_handler)
     sys.path[:0] = [str(HERE), str(HERE.parent), str(HERE.parent / "backend")]
     begin = time.monotonic()
     loader = unittest.TestLoader()
