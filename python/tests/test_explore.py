@@ -481,6 +481,42 @@ class Usage(InFolder):
         self.refused("taken", path, "--into", taken / "below")
         self.refused("No such file", path, "--json", self.folder / "nowhere/report")
 
+    def shown_to(self, shown: int, *words: object) -> tuple[int, str]:
+        """Explores for five turns with the report going to a descriptor: the status, and the errors."""
+        command = [sys.executable, "-m", "zkit.explore", str(EXAMPLES / "hello.z3"), "--turns", "5", *map(str, words)]
+        ended = subprocess.run(
+            command, cwd=self.folder, env=environment(), stdout=shown, stderr=subprocess.PIPE, encoding="utf-8"
+        )
+        return ended.returncode, ended.stderr
+
+    def test_devices(self) -> None:
+        """What can't be written or is too large has words, and the rest is written all the same."""
+        path, full = EXAMPLES / "hello.z3", Path("/dev/full")
+        if not full.exists():
+            self.skipTest("there is no /dev/full")
+        for words in (("--cover", full), ("--from", full)):
+            self.refused("/dev/full: File too large", path, *words)
+        no_room = "No space left on device\n"
+        ended = self.explore(path, "--turns", 5, "--json", full, "--cover", "ran")
+        self.assertEqual((ended.returncode, ended.stderr), (1, f"zkit.explore: /dev/full: {no_room}"))
+        self.assertIn("hello.z3: 0 finds\n", ended.stdout)
+        self.assertGreater(len((self.folder / "ran").read_text("utf-8").splitlines()), 2)
+        with full.open("wb") as device:
+            status = self.shown_to(device.fileno(), "--json", "report", "--cover", "all")
+        self.assertEqual(status, (1, f"zkit.explore: the report: {no_room}"))
+        self.assertEqual(json.loads((self.folder / "report").read_text("utf-8"))["finds"], [])
+        self.assertEqual((self.folder / "all").read_text("utf-8"), (self.folder / "ran").read_text("utf-8"))
+
+    def test_closed_pipe(self) -> None:
+        end, begin = os.pipe()
+        os.close(end)
+        try:
+            status = self.shown_to(begin, "--json", "report")
+        finally:
+            os.close(begin)
+        self.assertEqual(status, (1, "zkit.explore: the report: Broken pipe\n"))
+        self.assertEqual(json.loads((self.folder / "report").read_text("utf-8"))["finds"], [])
+
     def test_nothing(self) -> None:
         ended = self.explore(EXAMPLES / "hello.z3", "--minutes", 1, "--json", "report")
         self.assertEqual((ended.returncode, ended.stderr), (0, ""))

@@ -6,9 +6,11 @@ import ctypes
 import os
 import re
 import weakref
+from pathlib import Path
 from typing import Optional, Union
 
 from zkit import _library
+from zkit._files import MOST_BLORB, read
 from zkit.errors import ListingError, OutOfMemory, StoryError
 
 LISTINGS = (
@@ -38,11 +40,7 @@ class Story:
     __slots__ = ("_content", "_shared", "_facts", "_dictionary")
 
     def __init__(self, source: Union[str, os.PathLike[str], bytes]) -> None:
-        if isinstance(source, bytes):
-            file = source
-        else:
-            with open(source, "rb") as opened:
-                file = opened.read()
+        file = source if isinstance(source, bytes) else read(Path(source), MOST_BLORB)
         self._content = _story_in(file)
         self._shared = _Shared(self._content)
         self._facts = _facts_of(self._shared)

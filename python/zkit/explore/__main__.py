@@ -3,18 +3,20 @@
 from __future__ import annotations
 
 import argparse
+import os
 import sys
 from collections.abc import Callable
 from contextlib import ExitStack
-from pathlib import Path
+from functools import partial
 from typing import NoReturn, Optional
 
+from zkit._files import write
 from zkit.errors import ZkitError
 from zkit.explore import report, walkthroughs
 from zkit.explore.causes import Kind, Wanted
 from zkit.explore.cluster import Cluster, ClusterError
 from zkit.explore.cover_file import CoverError, CoverFile
-from zkit.explore.coverage import Coverage, coverage_of
+from zkit.explore.coverage import coverage_of
 from zkit.explore.explored import Explored
 from zkit.explore.explorer import Explorer, Settings
 from zkit.explore.folder import Folder
@@ -68,18 +70,41 @@ def explore(options: argparse.Namespace) -> int:
         told(explored)
         if names:
             names.add(explored.finds)
-    if cover:
-        cover.add(explored.ran)
-    tell(options, explored, progress.seconds, coverage_of(story, explored.ran, options.program))
-    return status(explored)
-
-
-def tell(options: argparse.Namespace, explored: Explored, seconds: float, coverage: Optional[Coverage]) -> None:
-    """Writes the reports that the command line asks for."""
-    if options.json:
-        options.json.write_text(report.as_json(explored, options.story, coverage), "utf-8")
+    coverage = coverage_of(story, explored.ran, options.program)
+    writes: list[Callable[[], None]] = []
     if not options.quiet:
-        print(report.as_text(explored, options.story, options.into, seconds, coverage), end="")
+        text = report.as_text(explored, options.story, options.into, progress.seconds, coverage)
+        writes.append(partial(show, text))
+    if options.json:
+        writes.append(partial(write, options.json, report.as_json(explored, options.story, coverage)))
+    if cover:
+        writes.append(partial(cover.add, explored.ran))
+    return status(explored) if all([is_done(it, progress) for it in writes]) else REFUSED
+
+
+def show(text: str) -> None:
+    """Shows the report."""
+    try:
+        print(text, end="", flush=True)
+    except OSError:
+        # (what is left of it would fail once more at the end)
+        os.dup2(os.open(os.devnull, os.O_WRONLY), sys.stdout.fileno())
+        raise
+
+
+def is_done(does: Callable[[], None], progress: Progress) -> bool:
+    """Writes something, or tells why that can't be done."""
+    try:
+        does()
+    except OSError as error:
+        progress.warn(words_of(error))
+        return False
+    return True
+
+
+def words_of(error: OSError) -> str:
+    """Which file can't be used, and why."""
+    return f"{error.filename or 'the report'}: {error.strerror}"
 
 
 def explore_by(
@@ -112,7 +137,7 @@ def main(words: Optional[list[str]] = None) -> int:
     try:
         return explore(options)
     except OSError as error:
-        refuse(f"{error.filename or Path('.')}: {error.strerror}")
+        refuse(words_of(error))
     except (ZkitError, ClusterError, CoverError, NamesError, walkthroughs.WalkthroughError) as error:
         refuse(error)
 

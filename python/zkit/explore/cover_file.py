@@ -6,6 +6,7 @@ import re
 from collections.abc import Iterable
 from pathlib import Path
 
+from zkit._files import MOST_TEXT, read, write
 from zkit.story import Story
 
 ADDRESS = re.compile(r"[0-9A-Fa-f]{5,}")
@@ -34,11 +35,11 @@ class CoverFile:
         """Adds the addresses of instructions, and writes the file."""
         self._addresses.update(addresses)
         lines = [self._story, *(f"{address:05x}" for address in sorted(self._addresses))]
-        self._path.write_text("".join(line + "\n" for line in lines), "utf-8")
+        write(self._path, "".join(line + "\n" for line in lines))
 
     def _read(self, length: int) -> set[int]:
         try:
-            story, *lines = self._path.read_text("utf-8").split("\n")
+            story, *lines = read(self._path, MOST_TEXT).decode("utf-8").replace("\r\n", "\n").split("\n")
         except UnicodeDecodeError:
             raise self._error() from None
         words = [line.strip() for line in lines if line.strip() and line != story]

@@ -45,23 +45,23 @@ class Coverage:
 def coverage_of(story: Story, ran: Collection[int], program: Optional[Path]) -> Optional[Coverage]:
     """How much of a story these instructions are, or None if there is no program that counts it."""
     try:
-        asked = program_of(program)
-    except NamesError:
+        return _counted(_told(program_of(program), story, ran))
+    except (NamesError, OSError, subprocess.TimeoutExpired):
         return None
+
+
+def _told(asked: Path, story: Story, ran: Collection[int]) -> str:
+    """What `zkit cover` tells of these instructions."""
     with tempfile.TemporaryDirectory(prefix="zkit-") as folder:
         # STORY may be a Blorb file, which `zkit cover` does not take
         path = Path(folder) / f"story.z{story.version}"
         path.write_bytes(bytes(story))
         file = path.with_name("ran")
         CoverFile(file, story).add(ran)
-        try:
-            told = subprocess.run(
-                [asked, "cover", file, path], stdout=subprocess.PIPE, stderr=subprocess.DEVNULL,
-                timeout=LONGEST_COUNT, encoding="utf-8", errors="replace", check=False,
-            ).stdout
-        except (OSError, subprocess.TimeoutExpired):
-            return None
-    return _counted(told)
+        return subprocess.run(
+            [asked, "cover", file, path], stdout=subprocess.PIPE, stderr=subprocess.DEVNULL,
+            timeout=LONGEST_COUNT, encoding="utf-8", errors="replace", check=False,
+        ).stdout
 
 
 def _counted(told: str) -> Optional[Coverage]:

@@ -5,6 +5,7 @@ from __future__ import annotations
 from itertools import count
 from pathlib import Path
 
+from zkit._files import write
 from zkit.explore.causes import Kind
 from zkit.explore.finds import Find
 from zkit.explore.walkthroughs import SUFFIX, Text, without_comment, written
@@ -40,7 +41,7 @@ class Folder:
         for number in count(1):
             path = self._path / f"{kind}-{number:03}{SUFFIX}"
             if not path.exists():
-                path.write_text(content, "utf-8")
+                write(path, content)
                 break
             if without_comment(path.read_text("utf-8", "replace")) == without_comment(content):
                 break

@@ -6,6 +6,8 @@ import os
 from dataclasses import dataclass
 from pathlib import Path
 
+from zkit._files import MOST_TEXT
+from zkit._files import read as read_whole
 from zkit.explore.plays import STEPS, UNDO, Trail
 
 SUFFIX = ".walkthrough"
@@ -40,7 +42,7 @@ def files(paths: list[str]) -> list[Path]:
 def read(path: Path, seed: int) -> Trail:
     """The lines of a walkthrough without comments and checks, and its seed or else the given one."""
     try:
-        lines = [line.rstrip("\r") for line in path.read_text("utf-8-sig").split("\n")]
+        lines = [line.rstrip("\r") for line in read_whole(path, MOST_TEXT).decode("utf-8-sig").split("\n")]
     except (OSError, UnicodeDecodeError) as error:
         why = error.strerror if isinstance(error, OSError) else "it is not UTF-8"
         raise WalkthroughError(f"{path}: {why}") from None
