@@ -52,7 +52,7 @@ class Edit:
 
     def place(self) -> str:
         """How the file that it is written in is called in what is printed."""
-        return self.written.name if self.written.suffix == ".edits" else f"{self.crate}/must-fail"
+        return self.written.name if self.written.suffix == ".edits" else f"refused/{self.crate}"
 
     def title(self) -> str:
         """How it is called in what is printed."""
@@ -85,12 +85,6 @@ def refused() -> list[Edit]:
     """The edits of the folder `refused`."""
     paths = sorted((FOLDER / "refused").glob("*/*.edit"))
     return [edit for path in paths for edit in read_file(path, path.parent.name)]
-
-
-def must_fail() -> list[Edit]:
-    """The must-fail edits of the crates."""
-    paths = sorted(TOP.glob("crates/*/must-fail/*.edit"))
-    return [edit for path in paths for edit in read_file(path, path.parent.parent.name)]
 
 
 def mutants() -> list[Edit]:

@@ -4,7 +4,7 @@
 usage: conformance/mutate.py [-v] [--only WORDS]... [--first WORDS] [--jobs N] [--seconds N]
        conformance/mutate.py --check
 
-The edits are those of crates/*/must-fail and of conformance/refused that change code, and those of conformance/mutants.
+The edits are those of conformance/refused that change code, and those of conformance/mutants.
 README.md describes them. --check builds nothing: it tells which edits do not apply any more, the others of `refused`
 too.
 """
@@ -30,7 +30,7 @@ from typing import IO, NamedTuple, NoReturn, Optional
 import run
 import test
 from arms import Turned, numbers_at
-from edits import BadEdit, Edit, edited, must_fail, mutants, refused, why_not
+from edits import BadEdit, Edit, edited, mutants, refused, why_not
 from ending import end_with
 from sources import FOLDER, TOP, crates
 
@@ -64,7 +64,7 @@ class Way(NamedTuple):
 
 
 def read_left_out() -> set[str]:
-    """The must-fail edits that nothing outside can see, each with its reason."""
+    """The edits of `refused` that nothing outside can see, each with its reason."""
     lines = (FOLDER / "mutants" / "unseen").read_text(encoding="utf-8").splitlines()
     return {line.partition(":")[0] for line in lines if line.strip() and not line.startswith("#")}
 
@@ -83,7 +83,7 @@ def code_uses() -> dict[str, list[str]]:
 def read_edits(only: list[str]) -> list[Edit]:
     """All mutants that have any of the wanted words, or all where none are wanted, numbered from 1 on."""
     unseen, uses = read_left_out(), code_uses()
-    found = [it for it in [*refused(), *must_fail()] if it.crate in uses and f"{it.crate}/{it.name}" not in unseen]
+    found = [it for it in refused() if it.crate in uses and f"{it.crate}/{it.name}" not in unseen]
     # Of those that change code alone no one changes two files.
     found = [it for it in found if all(file.startswith("src/") for file in it.files())] + mutants()
     for (place, name), count in collections.Counter((it.place(), it.name) for it in found).items():
@@ -386,7 +386,7 @@ def read_words() -> tuple[argparse.Namespace, list[Edit]]:
 
 def check() -> int:
     """Tells which edits do not apply any more, and answers how many."""
-    found = [*must_fail(), *refused(), *mutants()]
+    found = [*refused(), *mutants()]
     wrong = {edit: why for edit in found if (why := why_not(edit))}
     for edit, why in wrong.items():
         print(f"bad: {edit.title()}: {why}")

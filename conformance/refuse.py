@@ -21,7 +21,7 @@ import tempfile
 from collections import Counter
 from collections.abc import Iterable
 
-from edits import Edit, must_fail, refused, why_not
+from edits import Edit, refused, why_not
 from ending import end_with
 from sources import TOP, begin_rt, copy_of, crates
 
@@ -85,13 +85,10 @@ def order_of(*words: str) -> str:
 def sample_of(edits: list[Edit], number: int) -> list[Edit]:
     """So many of the edits, chosen by the commit, one of them of a definition.
 
-    They are of a crate that has must-fail edits, so that the gate proves it once more in any case, and of another one.
+    They are of one crate, since a crate with such edits is proved once more.
     """
-    names = sorted({it.crate for it in edits}, key=order_of)
-    tried = [it for it in names if (TOP / "crates" / it / "must-fail").is_dir()]
-    others = [it for it in names if it not in tried]
-    chosen = {*tried[:1], *others[:1]}
-    edits = sorted((it for it in edits if it.crate in chosen), key=lambda it: order_of(it.name))
+    edits = sorted(edits, key=lambda it: order_of(it.crate, it.name))
+    edits = [it for it in edits if it.crate == edits[0].crate]
     first = [it for it in edits if is_of_a_definition(it)][:1]
     return (first + [it for it in edits if it not in first])[:number]
 
@@ -138,7 +135,7 @@ def main() -> int:
     if unknown := sorted({*options.crates} - {*crates()}):
         sys.exit(f"refuse.py: there is no crate {', '.join(unknown)}")
     edits = refused()
-    for edit in [*edits, *must_fail()]:
+    for edit in edits:
         if why := why_not(edit):
             sys.exit(f"{edit.written.relative_to(TOP)}: {why}")
     wanted = set(options.crates) | (changed_since(options.changed) if options.changed else set())

@@ -14,7 +14,7 @@ A query is one of these:
 
 A definition is believed (contracts of public functions cite it), a law (a public function proves it), an example
 (a law of values worked out by hand), or a helper (the code's own). Behind each stand the public functions that carry
-it, nearest first, the examples that cite it, and the must-fail edits of functions whose contracts cite it.
+it, nearest first, the examples that cite it, and the wrong bodies of functions whose contracts cite it.
 
 The script reads text, not meaning: names are looked up by the imports of a file, and a name that a binder takes is
 none of them. So it is an index, and the prover alone says what is true.
@@ -38,7 +38,7 @@ sys.dont_write_bytecode = True
 sys.path.insert(0, str(TOP / "conformance"))
 
 import run  # noqa: E402: these stand in the folder that was just named
-from edits import Edit, must_fail, refused  # noqa: E402
+from edits import Edit, refused  # noqa: E402
 from ending import end_with  # noqa: E402
 from sources import blocks_of, crates, functions_of  # noqa: E402
 
@@ -517,7 +517,7 @@ def find_examples(definitions: Definitions) -> None:
 def find_edits(definitions: Definitions, functions: dict[str, list[Function]]) -> None:
     """Says of each definition which edits turn it: first those of its own crate, and of functions that cite few."""
     turning: dict[Key, set[tuple[bool, int, str]]] = {key: set() for key in definitions}
-    for edit in [*must_fail(), *refused()]:
+    for edit in refused():
         for function in changed_by(edit, functions[edit.crate]):
             for key in function.cites:
                 name = edit.name if edit.crate == key[0] else edit.crate + "/" + edit.name
