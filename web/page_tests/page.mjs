@@ -12,7 +12,7 @@ export const SCREEN = join(ROOT, "web/page_tests/screen.z5");
 const ZKIT = join(ROOT, "dist/zkit");
 
 /** So many milliseconds a test waits at most for what is to come. */
-export const LONGEST = { wait: 40000 };
+export const LONGEST = { wait: 100000 };
 
 export const pause = (time) => new Promise((resolve) => setTimeout(resolve, time));
 

@@ -47,8 +47,11 @@ function runTool([name, program, words]) {
 }
 
 /** So many milliseconds a test may take; a browser that takes longer does not answer any more. */
-const LIMIT = 180000;
+const LIMIT = 600000;
 const LATE = `nothing came in ${LIMIT / 1000} s`;
+
+/** So often a case that failed is run again. */
+const AGAIN = 2;
 
 /** What a promise gives, where it comes in time. */
 function inTime(promise) {
@@ -93,19 +96,22 @@ async function runBrowser(Browser, options, cases) {
 }
 
 /**
- * Runs cases in all browsers at a time, and those that failed once more in one browser after the other: what is wrong
- * with the page fails again, and what was short of time on a slow machine does not. Gives how many failed.
+ * Runs cases in all browsers at a time, and those that failed again in one browser after the other, twice at most: what
+ * is wrong with the page fails each time, and what was short of time on a slow machine does not. Gives how many failed.
  */
 async function runAll(browsers, options, cases) {
     const first = await Promise.all(browsers.map((Browser) => runBrowser(Browser, options, cases)));
     let sum = 0;
     for (const [i, { errors, failed }] of first.entries()) {
         sum += errors;
-        if (failed.length === 0)
-            continue;
-        console.log(`once more, with no other browser beside: ${failed.map(([name]) => name).join(", ")}`);
-        const second = await runBrowser(browsers[i], options, failed);
-        sum += second.errors + second.failed.length;
+        let left = failed;
+        for (let more = 0; more < AGAIN && left.length > 0; more++) {
+            console.log(`again, with no other browser beside: ${left.map(([name]) => name).join(", ")}`);
+            const next = await runBrowser(browsers[i], options, left);
+            sum += next.errors;
+            left = next.failed;
+        }
+        sum += left.length;
     }
     return sum;
 }
