@@ -4,6 +4,7 @@ from __future__ import annotations
 
 import atexit
 import functools
+import os
 import subprocess
 import sys
 import tempfile
@@ -17,6 +18,9 @@ TOP = Path(__file__).resolve().parent.parent.parent
 EXAMPLES = TOP / "examples"
 PROGRAM = TOP / "dist/zkit"
 LINES = (EXAMPLES / "lighthouse.walkthrough").read_text("utf-8").splitlines()
+# a folder with stories that are not in the repository: cellar.z3 and cellar.z5, and whole games in its folder games
+STORIES = Path(os.environ.get("ZKIT_STORIES", os.devnull))
+GAMES = STORIES / "games"
 
 _folder = tempfile.TemporaryDirectory()
 atexit.register(_folder.cleanup)

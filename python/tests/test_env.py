@@ -7,14 +7,13 @@ import time
 import unittest
 from typing import Optional
 
-from helping import LINES, TOP, example
+from helping import GAMES, LINES, STORIES, TOP, example
 from test_docs import members
 from zkit import Awaits, Closed, NotAwaited, NotThere
 from zkit.env import Environment, State, figures
 from zkit.replies import Reply
 
-GAMES = TOP.parent / "shared/stories/games"
-CELLAR = TOP.parent / "shared/stories/cellar.z3"
+CELLAR = STORIES / "cellar.z3"
 VERSIONS = (3, 4, 5, 8)
 
 
@@ -237,7 +236,7 @@ class Figures(unittest.TestCase):
             self.assertEqual((ending, bool(ending and figures.is_won(ending))), (wanted, won), text)
 
 
-@unittest.skipUnless(CELLAR.is_file(), f"there is no {CELLAR.name}: a walkthrough of it")
+@unittest.skipUnless(CELLAR.is_file(), f"ZKIT_STORIES names no folder with {CELLAR.name}: a walkthrough of it")
 class Cellar(unittest.TestCase):
     """A small adventure, up to its end."""
 
@@ -254,7 +253,7 @@ class Cellar(unittest.TestCase):
                 self.assertEqual((terminated, truncated, info["victory"], env.game_over()), (True, False, True, False))
 
 
-@unittest.skipUnless(GAMES.is_dir(), f"there is no folder {GAMES.name} with games")
+@unittest.skipUnless(GAMES.is_dir(), "ZKIT_STORIES names no folder with games: their walkthroughs")
 class WholeGames(unittest.TestCase):
     """Games of Inform's library."""
 

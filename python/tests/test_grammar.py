@@ -10,14 +10,13 @@ import tempfile
 import unittest
 from pathlib import Path
 
-from helping import EXAMPLES, TOP, example, small
+from helping import EXAMPLES, GAMES, example, small
 from zkit import Story, StoryError
 from zkit.explore.chance import Chance
 from zkit.explore.grammar import Form, Line, grammar_of
 from zkit.explore.lines import Writer
 from zkit.explore.vocabulary import vocabulary_of
 
-GAMES = TOP.parent / "shared/stories/games"
 SOURCE = """Constant Grammar__Version = 2;
 Array line -> 60;
 [ TakeSub; ]; [ PokeSub; ]; [ DialSub; ]; [ AskSub; ]; [ IsRed; rtrue; ]; [ Parse; rtrue; ]; [ Near; rtrue; ];
@@ -110,7 +109,7 @@ class Grammar(unittest.TestCase):
         self.assertGreater(len(counts), 2)
 
 
-@unittest.skipUnless(GAMES.is_dir(), "there is no folder of games: their grammar")
+@unittest.skipUnless(GAMES.is_dir(), "ZKIT_STORIES names no folder with games: their grammar")
 class Games(unittest.TestCase):
     """Games with Inform's library."""
 
