@@ -312,20 +312,20 @@ async function walkthroughWithSaves(page) {
 
 /** A long walkthrough says how far it is, and can be stopped; its other lines can still be gone to. */
 async function stopsWalkthrough(page) {
-    const lines = Array.from({ length: 99 }, (_, i) => `line ${i}`);
-    const own = ownPage(page, { story: counting("Done.\n>"), file: "counts.z5", walkthrough: joined(lines) });
+    const lines = Array.from({ length: 999 }, (_, i) => `line ${i}`);
+    const own = ownPage(page, { story: counting("Done.\n>", "", 40), file: "counts.z5", walkthrough: joined(lines) });
     await own.fresh();
     await own.rests();
     await own.menu("walkthrough");
     await own.until(() =>
-        /^Repeating the play: [1-9]\d* of 99\.$/.test(document.getElementById("running-words").textContent));
+        /^Repeating the play: [1-9]\d* of 999\.$/.test(document.getElementById("running-words").textContent));
     await own.click("#stop");
     await told(own, "You have stopped the walkthrough. Continue from here, or from any of its lines.");
     await own.rests();
     const typed = (await own.run(typedLines)).split(",");
     same(typed.join(), lines.slice(0, typed.length).join(), "the lines that were given");
     await own.lines();
-    same(await own.run(() => document.querySelectorAll("#line-list li").length), 100,
+    same(await own.run(() => document.querySelectorAll("#line-list li").length), 1000,
         "the lines, with the end of the list");
     await own.click(`#line-list li:nth-child(${typed.length + 2}) button`);
     await own.until((count) => document.querySelectorAll("#scroller .typed").length === count, typed.length + 1);

@@ -236,14 +236,15 @@ async function goesFromNearest(page) {
 /** A play that takes long to repeat says how far it is, and can be stopped; the lines after that can be gone to. */
 async function stopsRepeating(page) {
     await page.fresh();
-    await page.drop(counting("Done.\n>"), "counts.z5");
+    // (turns so short that the one in which Stop is pressed ends at its read, also on a slow machine)
+    await page.drop(counting("Done.\n>", "", 40), "counts.z5");
     await page.until(() => document.getElementById("title").title === "counts.z5");
     await page.rests();
     const file = await sharedFile(page);
-    const answers = Array.from({ length: 99 }, (_, i) => `line ${i}`);
+    const answers = Array.from({ length: 999 }, (_, i) => `line ${i}`);
     await page.drop(Buffer.from(JSON.stringify({ ...file, answers })), "slow.play.json");
     await page.until(() =>
-        /^Repeating the play: [1-9]\d* of 99\.$/.test(document.getElementById("running-words").textContent));
+        /^Repeating the play: [1-9]\d* of 999\.$/.test(document.getElementById("running-words").textContent));
     await page.click("#stop");
     await page.until(() => !document.getElementById("ask").hidden && document.getElementById("running").hidden);
     await page.rests();
@@ -251,12 +252,12 @@ async function stopsRepeating(page) {
     await page.lines();
     const [given, later] = await page.run(() => ["li:not(.later)", "li.later"].map((kind) =>
         document.querySelectorAll(`#line-list ${kind}`).length));
-    same(given + later, 100, "the number of lines, with the end of the list");
+    same(given + later, 1000, "the number of lines, with the end of the list");
     holds(given > 0 && later > 1, `${given} lines and ${later} later ones`);
     await page.leave();
     await page.say("on");
     same(await page.run(lastTyped), "on", "what was typed after Stop");
-    return `stopped after ${given} of 99`;
+    return `stopped after ${given} of 999`;
 }
 
 /** Each turn is spoken once, and all of it; the status line where it changes, and each line is a heading. */

@@ -157,14 +157,17 @@ export function restoring(count, text) {
 }
 
 /**
- * A story that prints a text, runs twelve million instructions and prints another one before each line that it reads.
+ * A story that prints a text, runs twelve million instructions and prints another one before each line that it reads:
+ * 30,000 for each round.
  */
-export function counting(text, before = "") {
-    // store global 1, 0; store global 0, 0; inc_chk global 0, 30000 ?~ again; inc_chk global 1, 399 ?~ back to the
-    // second one
-    const count = [0x0d, 0x11, 0, 0x0d, 0x10, 0, 0xc5, 0x4f, 0x10, 0x75, 0x30, 0x3f, 0xfb, 0xc5, 0x4f, 0x11, 0x01, 0x8f,
-        0x3f, 0xf1];
-    const all = [...printed(before), ...count, ...printed(text), ...READ];
+export function counting(text, before = "", rounds = 400) {
+    // store global 1, 0; store global 0, 0; inc_chk global 0, 30000 ?~ again; inc_chk global 1, the rounds less one ?~
+    // back to the second one
+    const count = [0x0d, 0x11, 0, 0x0d, 0x10, 0, 0xc5, 0x4f, 0x10, 0x75, 0x30, 0x3f, 0xfb, 0xc5, 0x4f, 0x11,
+        ...word(rounds - 1), 0x3f, 0xf1];
+    // storeb LINE, 1, 0: what was typed before is not kept as the beginning of the next line (section 15, read)
+    const empties = [0xe2, 0x17, ...word(LINE), 1, 0];
+    const all = [...printed(before), ...count, ...printed(text), ...empties, ...READ];
     return storyOf([...all, ...jumpBack(all.length)]);
 }
 
