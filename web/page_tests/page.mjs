@@ -82,6 +82,31 @@ function hearInPage() {
     }).observe(document.body, { childList: true, characterData: true, subtree: true });
 }
 
+/**
+ * In the page of an address: takes away all that the browser keeps of it. The page itself keeps nothing any more. Tells
+ * whether that was done; it is not in another page, or where the browser answers nothing in time.
+ */
+function forgetInPage(url) {
+    if (location.href.split("#")[0] !== url)
+        return false;
+    Storage.prototype.setItem = () => {};
+    localStorage.clear();
+    return new Promise((resolve) => {
+        setTimeout(() => resolve(false), 2000);
+        const request = indexedDB.open("zkit");
+        request.onsuccess = () => {
+            const all = [...request.result.objectStoreNames];
+            const clearing = all.length ? request.result.transaction(all, "readwrite") : null;
+            IDBDatabase.prototype.transaction = () => {
+                throw new Error("nothing is kept any more");
+            };
+            all.forEach((name) => clearing.objectStore(name).clear());
+            const done = () => (request.result.close(), resolve(true));
+            clearing ? clearing.oncomplete = done : done();
+        };
+    });
+}
+
 /** In the page: where an element may be clicked; null where it is not seen, or something lies over it. */
 function placeInPage(selector) {
     const it = document.querySelector(selector);
@@ -120,19 +145,11 @@ export class Page {
 
     /** Opens the page as one that was never here. */
     async fresh(hash = "") {
-        await this.browser.go(this.url);
-        await this.ready();
-        await this.run(() => new Promise((resolve) => {
-            localStorage.clear();
-            const request = indexedDB.open("zkit");
-            request.onsuccess = () => {
-                const all = [...request.result.objectStoreNames];
-                const clearing = all.length ? request.result.transaction(all, "readwrite") : null;
-                all.forEach((name) => clearing.objectStore(name).clear());
-                const done = () => (request.result.close(), resolve(true));
-                clearing ? clearing.oncomplete = done : done();
-            };
-        }));
+        if (!await this.run(forgetInPage, this.url).catch(() => false)) {
+            await this.browser.go(this.url);
+            await this.ready();
+            await this.run(forgetInPage, this.url);
+        }
         await this.browser.go(this.url + hash);
         await this.ready();
     }
