@@ -84,15 +84,15 @@ function hearInPage() {
 
 /**
  * In the page of an address: takes away all that the browser keeps of it. The page itself keeps nothing any more. Tells
- * whether that was done; it is not in another page, or where the browser answers nothing in time.
+ * whether that was done; it is not in another page, or where the browser answers nothing in so many milliseconds.
  */
-function forgetInPage(url) {
+function forgetInPage(url, patience) {
     if (location.href.split("#")[0] !== url)
         return false;
     Storage.prototype.setItem = () => {};
     localStorage.clear();
     return new Promise((resolve) => {
-        setTimeout(() => resolve(false), 2000);
+        setTimeout(() => resolve(false), patience);
         const request = indexedDB.open("zkit");
         request.onsuccess = () => {
             const all = [...request.result.objectStoreNames];
@@ -145,10 +145,10 @@ export class Page {
 
     /** Opens the page as one that was never here. */
     async fresh(hash = "") {
-        if (!await this.run(forgetInPage, this.url).catch(() => false)) {
+        if (!await this.run(forgetInPage, this.url, 2000).catch(() => false)) {
             await this.browser.go(this.url);
             await this.ready();
-            await this.run(forgetInPage, this.url);
+            holds(await this.run(forgetInPage, this.url, LONGEST.wait), "the browser does not forget the page");
         }
         await this.browser.go(this.url + hash);
         await this.ready();
