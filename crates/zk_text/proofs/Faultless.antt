@@ -101,7 +101,7 @@ faultless_behind m held.Escape zs faultless few =
     pieces_faultless m (5 ∷ 6 ∷ zs) 0 faultless (omega arith, (omega arith, few))
 faultless_behind m (held.UpperHalf high) [] faultless few = sym (nothing_behind m (held.UpperHalf high))
 faultless_behind m (held.UpperHalf high) (z ∷ zs) faultless few =
-    half_fault m high 0 z zs ∙ pieces_faultless m (5 ∷ 6 ∷ 0 ∷ z ∷ zs) 0 faultless
+    half_fault (abbreviation m) m high 0 z zs ∙ pieces_faultless m (5 ∷ 6 ∷ 0 ∷ z ∷ zs) 0 faultless
     (omega arith, (omega arith, (omega arith, few)))
 
 -- ---- texts
@@ -115,13 +115,13 @@ faultless_more m w ws r faultless is h = is h ∙ faultless_behind m h (z_charac
 pub faultless_last : (m : MemoryMap) (a w : ℕ) (r : Rest) → AreFaultless m → code_word_at m a ≡ Some w → 32768 ≤ w
     → IsRestOf m [] r → IsTextRest m a (Some r)
 faultless_last m a w r faultless e high ends =
-    last_rest m a w r r e high (λ ws is. faultless_more m w ws r faultless is) ends
+    last_rest (abbreviation m) m a w r r e high (λ ws is. faultless_more m w ws r faultless is) ends
 
 pub faultless_further : (m : MemoryMap) (a w : ℕ) (o : Option Rest) → AreFaultless m → code_word_at m a ≡ Some w
     → w < 32768 → IsTextRest m (a + 2) o → IsTextRest m a o
-faultless_further m a w None faultless e low h = no_rest m a w None e low refl h
+faultless_further m a w None faultless e low h = no_rest (abbreviation m) m a w None e low refl h
 faultless_further m a w (Some r) faultless e low h =
-    further_rest m a w (Some r) r r e low refl h (λ ws is. faultless_more m w ws r faultless is)
+    further_rest (abbreviation m) m a w (Some r) r r e low refl h (λ ws is. faultless_more m w ws r faultless is)
 
 -- ---- past the last word
 

@@ -1,3 +1,4 @@
+pub mod Abbreviated
 pub mod CheckedEnds
 pub mod Faultless
 pub mod Giving

@@ -60,6 +60,15 @@ abbrev pub table_word : Result ℕ Fault → Result ℕ Fault
 table_word (Ok w) = Ok w
 table_word (Err f) = Err TextPastEnd
 
+-- the byte address of an abbreviation's text, where the word of its table can be read: that is a word address (sections
+-- 3.3 and 1.2.2)
+abbrev pub place_of : Result ℕ Fault → Option ℕ
+place_of (Ok w) = Some (2 * w)
+place_of (Err f) = None
+
+abbrev pub text_place : MemoryMap → ℕ → Option ℕ
+text_place m n = place_of (word_at m ((header_of m.file).abbreviations + 2 * n))
+
 -- what an abbreviation stands for: its table has word addresses (sections 3.3 and 1.2.2)
 unfoldable pub abbreviation : MemoryMap → ℕ → Units
 abbreviation m n =

@@ -1,5 +1,5 @@
 -- The faults of texts, found from the story's end backwards.
-use Rattle.std.specs.Prelude.{◌≡◌, ℕ, ◌+◌, ◌<◌, Bool, true, List, ◌++◌, Option, Some, None, Ok, Err, slice_get}
+use Rattle.std.specs.Prelude.{◌≡◌, ℕ, ◌+◌, ◌<◌, true, List, ◌++◌, Option, Some, None, Ok, Err, slice_get}
 use Rattle.zk_mem.specs.declared.fault.Fault.{Fault}
 use Rattle.zk_mem.specs.Map.{MemoryMap}
 use Rattle.zk_mem.specs.Words.{words_at}
@@ -27,9 +27,10 @@ first_of (Some f) later = Some f
 abbrev pub AreFaults : MemoryMap → List (Option Fault) → Type 0
 AreFaults m faults = (n : ℕ) (f : Option Fault) → slice_get faults n ≡ Some f → f ≡ fault_of (abbreviation m n)
 
--- the abbreviations that are noted as good, by their numbers, have no fault
-abbrev pub AreGood : MemoryMap → List Bool → Type 0
-AreGood m good = (n : ℕ) → slice_get good n ≡ Some true → fault_of (abbreviation m n) ≡ None
+-- the faults that are known of abbreviations, by their numbers
+abbrev pub AreKnown : MemoryMap → List (Option (Option Fault)) → Type 0
+AreKnown m known =
+    (n : ℕ) (f : Option Fault) → slice_get known n ≡ Some (Some f) → f ≡ fault_of (abbreviation m n)
 
 -- no abbreviation has a fault
 abbrev pub AreFaultless : MemoryMap → Type 0
@@ -61,14 +62,21 @@ kept_for r held.ShiftToA2 = r.shift_to_a2
 kept_for r held.Escape = r.escape
 kept_for r (held.UpperHalf high) = r.upper_half
 
--- what is kept is of these Z-characters
-abbrev pub IsRestOf : MemoryMap → List ℕ → Rest → Type 0
-IsRestOf m zs r = (h : Pending) → kept_for r h ≡ fault_behind m h zs
+-- what is kept is of these Z-characters, by what abbreviations stand for
+abbrev pub IsRestBy : (ℕ → Units) → MemoryMap → List ℕ → Rest → Type 0
+IsRestBy expand m zs r = (h : Pending) → kept_for r h ≡ fault_by expand m h zs
 
--- what is kept is of the text at an address, where it has an end
+abbrev pub IsRestOf : MemoryMap → List ℕ → Rest → Type 0
+IsRestOf m zs r = IsRestBy (abbreviation m) m zs r
+
+-- what is kept is of the text at an address, where it has an end, by what abbreviations stand for
+abbrev pub IsTextRestBy : (ℕ → Units) → MemoryMap → ℕ → Option Rest → Type 0
+IsTextRestBy expand m a None = words_at m a ≡ None
+IsTextRestBy expand m a (Some r) =
+    (ws : List ℕ) × (words_at m a ≡ Some ws) × IsRestBy expand m (z_characters ws) r
+
 abbrev pub IsTextRest : MemoryMap → ℕ → Option Rest → Type 0
-IsTextRest m a None = words_at m a ≡ None
-IsTextRest m a (Some r) = (ws : List ℕ) × (words_at m a ≡ Some ws) × IsRestOf m (z_characters ws) r
+IsTextRest m a o = IsTextRestBy (abbreviation m) m a o
 
 -- a sweep has come down to an address
 pub record IsSweptTo (m : MemoryMap) (a : ℕ) (s : Sweep) : Type 0 where

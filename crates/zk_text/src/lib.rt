@@ -1,6 +1,7 @@
 // The text of a story: Z-characters, ZSCII, Unicode and the keys of words.
 #![tactic(auto)]
 
+mod abbreviations;
 pub mod alphabet;
 pub mod buffer;
 mod checking;

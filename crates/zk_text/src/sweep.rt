@@ -1,16 +1,17 @@
 // The faults of all texts of a story, in one sweep: a text has those of its rest, and all texts share their rests.
 
-ghost use Rattle.std.specs.Prelude.{◌≡◌, ◌≤◌, ◌+◌, ◌∷◌, ◌++◌, [], List, ℕ, true, IfOk, Some, is_none, length};
+ghost use Rattle.std.specs.Prelude.{◌≡◌, ◌≤◌, ◌+◌, ◌∷◌, ◌++◌, [], List, ℕ, true, IfOk, IfSome, Some, is_none, length};
 ghost use Rattle.std.specs.Prelude.{slice_get};
 ghost use Rattle.std.specs.List.{list_all};
 ghost use Rattle.zk_mem.specs.Map.{MemoryMap, code_word_at};
-ghost use Rattle.zk_text.specs.Meaning.{abbreviation, text_units};
+ghost use Rattle.zk_text.specs.Meaning.{Units, abbreviation, meaning_at, no_abbreviation, text_units};
 ghost use Rattle.zk_text.specs.Words.{z_characters};
-ghost use Rattle.zk_text.specs.Sweeps.{AreFaultless, AreFaults, IsRestOf, IsSweptTo, IsTextRest, fault_behind};
-ghost use Rattle.zk_text.specs.Sweeps.{fault_of, first_of, kept_for, piece_fault};
+ghost use Rattle.zk_text.specs.Sweeps.{AreFaultless, AreFaults, IsRestBy, IsSweptTo, IsTextRest, IsTextRestBy};
+ghost use Rattle.zk_text.specs.Sweeps.{fault_by, fault_of, first_of, kept_for};
 
-use crate::checking::abbreviation_fault;
-use crate::pieces::{Pending, Piece, advance};
+use crate::checking::{Abbreviations, Outside, abbreviation_fault, has_text_at, piece_fault};
+use crate::pieces::{Pending, advance};
+use crate::text::check_abbreviation;
 use std::alloc::{AllocError, Global};
 use zk_mem::fault::Fault;
 use zk_mem::memory::Memory;
@@ -20,9 +21,10 @@ fn list_faults(alloc: Global, memory: &Memory) -> Result<Vec<Option<Fault>>, All
     ensures size { IfOk result (λ faults. length faults.items ≡ 96) }
     ensures exact { IfOk result (λ faults. AreFaults memory.now faults.items) }
 {
+    let mut outside = Outside::new();
     let mut faults = Vec::new(alloc);
     for number in 0..96 {
-        faults.push(abbreviation_fault(memory, number))?;
+        faults.push(outside.fault(memory, number))?;
     }
     Ok(faults)
 }
@@ -51,36 +53,59 @@ fn listed_fault(memory: &Memory, faults: &[Option<Fault>], number: u16) -> Optio
     }
 }
 
-/// The fault of what a piece stands for, if it has one.
-fn piece_fault(memory: &Memory, faults: &[Option<Fault>], piece: Option<Piece>) -> Option<Fault>
+/// The fault of the text at an address, by those that are listed, where it is the text of an abbreviation.
+fn listed_at(memory: &Memory, faults: &[Option<Fault>], address: u32) -> Option<Option<Fault>>
     requires { AreFaults memory.now faults.now }
-    ensures { result ≡ piece_fault memory.now piece }
+    ensures { IfSome result (λ fault. fault ≡ fault_of (meaning_at no_abbreviation memory.now address)) }
 {
-    match piece {
-        Some(Piece::Abbreviation(number)) => listed_fault(memory, faults, number),
-        _ => None,
+    for number in 0..96 {
+        if has_text_at(memory, number, address) {
+            return Some(listed_fault(memory, faults, number));
+        }
+    }
+    None
+}
+
+/// The abbreviations by a list of their faults.
+#[derive(Drop)]
+struct FaultList<'a> {
+    faults: &'a [Option<Fault>],
+}
+
+impl<'a> Abbreviations for FaultList<'a> {
+    ghost use Rattle.zk_text.specs.Meaning.{abbreviation};
+    ghost use Rattle.zk_text.specs.Sweeps.{AreFaults};
+
+    ghost stands = { abbreviation };
+
+    ghost holds = { λ m l. AreFaults m l.faults.now };
+
+    #[inline(always)]
+    fn fault(&mut self, memory: &Memory, number: u16) -> Option<Fault> {
+        listed_fault(memory, self.faults, number)
     }
 }
 
 /// One Z-character: what is held back then, and the fault of the piece that it ends.
 #[inline(always)]
-fn pass(
+fn pass<A: Abbreviations>(
     memory: &Memory,
-    faults: &[Option<Fault>],
+    abbreviations: &mut A,
     held: Pending,
     character: u8,
 ) -> (Pending, Option<Fault>)
-    requires { AreFaults memory.now faults.now }
-    ensures { (zs : List ℕ) → fault_behind memory.now held (character ∷ zs)
-        ≡ first_of result.1 (fault_behind memory.now result.0 zs) }
+    requires { A.holds memory.now abbreviations.old }
+    ensures fault { (zs : List ℕ) → fault_by (A.stands memory.now) memory.now held (character ∷ zs)
+        ≡ first_of result.1 (fault_by (A.stands memory.now) memory.now result.0 zs) }
+    ensures holds { A.holds memory.now abbreviations.new }
 {
     let (next, piece) = advance(held, character);
-    (next, piece_fault(memory, faults, piece))
+    (next, piece_fault(memory, abbreviations, piece))
 }
 
 /// What is known of the rest of a text: the fault that there is, by what is held back before it.
 #[derive(Clone, Copy)]
-struct Rest {
+pub(crate) struct Rest {
     nothing: Option<Fault>,
     first: Option<Fault>,
     second: Option<Fault>,
@@ -94,7 +119,7 @@ struct Rest {
 impl Rest {
     /// After the last word.
     fn none() -> Rest
-        ensures { (m : MemoryMap) → IsRestOf m [] result }
+        ensures { (expand : ℕ → Units) (m : MemoryMap) → IsRestBy expand m [] result }
     {
         Rest {
             nothing: None,
@@ -127,18 +152,19 @@ impl Rest {
 
 /// The fault of a Z-character, by what is held back before it, and of the rest after it.
 #[inline(always)]
-fn fault_before(
+fn fault_before<A: Abbreviations>(
     memory: &Memory,
-    faults: &[Option<Fault>],
+    abbreviations: &mut A,
     held: Pending,
     character: u8,
     rest: &Rest,
 ) -> Option<Fault>
-    requires { AreFaults memory.now faults.now }
-    ensures { (zs : List ℕ) → IsRestOf memory.now zs rest.now
-        → result ≡ fault_behind memory.now held (character ∷ zs) }
+    requires { A.holds memory.now abbreviations.old }
+    ensures value { (zs : List ℕ) → IsRestBy (A.stands memory.now) memory.now zs rest.now
+        → result ≡ fault_by (A.stands memory.now) memory.now held (character ∷ zs) }
+    ensures holds { A.holds memory.now abbreviations.new }
 {
-    let (next, fault) = pass(memory, faults, held, character);
+    let (next, fault) = pass(memory, abbreviations, held, character);
     if fault.is_some() {
         return fault;
     }
@@ -146,55 +172,84 @@ fn fault_before(
 }
 
 /// What is known of a Z-character and the rest after it.
-fn rest_before(memory: &Memory, faults: &[Option<Fault>], character: u8, rest: &Rest) -> Rest
-    requires { AreFaults memory.now faults.now }
-    ensures { (zs : List ℕ) → IsRestOf memory.now zs rest.now
-        → IsRestOf memory.now (character ∷ zs) result }
+fn rest_before<A: Abbreviations>(
+    memory: &Memory,
+    abbreviations: &mut A,
+    character: u8,
+    rest: &Rest,
+) -> Rest
+    requires { A.holds memory.now abbreviations.old }
+    ensures rest { (zs : List ℕ) → IsRestBy (A.stands memory.now) memory.now zs rest.now
+        → IsRestBy (A.stands memory.now) memory.now (character ∷ zs) result }
+    ensures holds { A.holds memory.now abbreviations.new }
 {
     Rest {
-        nothing: fault_before(memory, faults, Pending::Nothing, character, rest),
-        first: fault_before(memory, faults, Pending::First, character, rest),
-        second: fault_before(memory, faults, Pending::Second, character, rest),
-        third: fault_before(memory, faults, Pending::Third, character, rest),
-        shift_to_a1: fault_before(memory, faults, Pending::ShiftToA1, character, rest),
-        shift_to_a2: fault_before(memory, faults, Pending::ShiftToA2, character, rest),
-        escape: fault_before(memory, faults, Pending::Escape, character, rest),
+        nothing: fault_before(memory, abbreviations, Pending::Nothing, character, rest),
+        first: fault_before(memory, abbreviations, Pending::First, character, rest),
+        second: fault_before(memory, abbreviations, Pending::Second, character, rest),
+        third: fault_before(memory, abbreviations, Pending::Third, character, rest),
+        shift_to_a1: fault_before(memory, abbreviations, Pending::ShiftToA1, character, rest),
+        shift_to_a2: fault_before(memory, abbreviations, Pending::ShiftToA2, character, rest),
+        escape: fault_before(memory, abbreviations, Pending::Escape, character, rest),
         // which half it is shows in no fault
-        upper_half: fault_before(memory, faults, Pending::UpperHalf(0), character, rest),
+        upper_half: fault_before(
+            memory,
+            abbreviations,
+            Pending::UpperHalf(0),
+            character,
+            rest,
+        ),
     }
 }
 
 /// What is known of a word and the rest after it.
 #[tactic(auto, unfolding(crate::specs::Words::z_characters))]
-fn word_before(memory: &Memory, faults: &[Option<Fault>], word: u16, rest: &Rest) -> Rest
-    requires { AreFaults memory.now faults.now }
-    ensures { (ws : List ℕ) → IsRestOf memory.now (z_characters ws) rest.now
-        → IsRestOf memory.now (z_characters (word ∷ ws)) result }
+fn word_before<A: Abbreviations>(
+    memory: &Memory,
+    abbreviations: &mut A,
+    word: u16,
+    rest: &Rest,
+) -> Rest
+    requires { A.holds memory.now abbreviations.old }
+    ensures rest { (ws : List ℕ) → IsRestBy (A.stands memory.now) memory.now (z_characters ws) rest.now
+        → IsRestBy (A.stands memory.now) memory.now (z_characters (word ∷ ws)) result }
+    ensures holds { A.holds memory.now abbreviations.new }
 {
-    let third = rest_before(memory, faults, (word % 32) as u8, rest);
-    let second = rest_before(memory, faults, (word / 32 % 32) as u8, &third);
-    rest_before(memory, faults, (word / 1024 % 32) as u8, &second)
+    let third = rest_before(memory, abbreviations, (word % 32) as u8, rest);
+    let second = rest_before(memory, abbreviations, (word / 32 % 32) as u8, &third);
+    rest_before(memory, abbreviations, (word / 1024 % 32) as u8, &second)
 }
 
 /// What is known of the text at an address, by its first word and the text of its second one.
-fn text_rest(
+pub(crate) fn text_rest<A: Abbreviations>(
     memory: &Memory,
-    faults: &[Option<Fault>],
+    abbreviations: &mut A,
     address: u32,
     word: u16,
     further: Option<Rest>,
 ) -> Option<Rest>
-    requires faults { AreFaults memory.now faults.now }
+    requires holds { A.holds memory.now abbreviations.old }
     requires word { code_word_at memory.now address ≡ Some word }
-    requires further { IsTextRest memory.now (address + 2) further }
-    ensures { IsTextRest memory.now address result }
+    requires further { IsTextRestBy (A.stands memory.now) memory.now (address + 2) further }
+    ensures { IsTextRestBy (A.stands memory.now) memory.now address result }
 {
     if word >= 0x8000 {
-        return Some(word_before(memory, faults, word, &Rest::none()));
+        return Some(word_before(memory, abbreviations, word, &Rest::none()));
     }
     match further {
-        Some(rest) => Some(word_before(memory, faults, word, &rest)),
+        Some(rest) => Some(word_before(memory, abbreviations, word, &rest)),
         None => None,
+    }
+}
+
+/// Why a text has no meaning, by what is known of it.
+pub(crate) fn rest_fault(rest: Option<Rest>) -> Option<Fault>
+    ensures { (expand : ℕ → Units) (m : MemoryMap) (a : ℕ) → IsTextRestBy expand m a rest
+        → result ≡ fault_of (meaning_at expand m a) }
+{
+    match rest {
+        Some(rest) => rest.nothing,
+        None => Some(Fault::TextPastEnd),
     }
 }
 
@@ -250,7 +305,10 @@ impl Sweep {
         if self.faultless {
             faultless_rest(memory, address, word, self.behind)
         } else {
-            text_rest(memory, self.faults.as_slice(), address, word, self.behind)
+            let mut list = FaultList {
+                faults: self.faults.as_slice(),
+            };
+            text_rest(memory, &mut list, address, word, self.behind)
         }
     }
 
@@ -274,9 +332,21 @@ impl Sweep {
         requires { IsSweptTo memory.now address self.now }
         ensures { result ≡ fault_of (text_units memory.now address) }
     {
-        match self.here {
-            Some(rest) => rest.nothing,
-            None => Some(Fault::TextPastEnd),
+        rest_fault(self.here)
+    }
+
+    /// Why the text at the address that the sweep has come to has no meaning as that of an abbreviation, where it has
+    /// none (see `check_abbreviation`).
+    pub fn abbreviation_fault(&self, memory: &Memory, address: u32) -> Option<Fault>
+        requires { IsSweptTo memory.now address self.now }
+        ensures { result ≡ fault_of (meaning_at no_abbreviation memory.now address) }
+    {
+        if let Some(fault) = listed_at(memory, self.faults.as_slice(), address) {
+            return fault;
+        }
+        match check_abbreviation(memory, address) {
+            Ok(()) => None,
+            Err(fault) => Some(fault),
         }
     }
 }

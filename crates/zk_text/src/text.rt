@@ -1,8 +1,8 @@
 // Texts: where they end, and their units given to a sink.
 
-ghost use Rattle.std.specs.Prelude.{◌≡◌, ◌≤◌, List, Ok, Err, IsOk, OnOk, OnErr, IfOk, MatchResult, length};
+ghost use Rattle.std.specs.Prelude.{◌≡◌, ◌≤◌, ◌%◌, List, Ok, Err, IsOk, OnOk, OnErr, IfOk, IfSome, MatchResult, length};
 ghost use Rattle.zk_text.specs.Lengths.{HasShortText, HasShortTexts};
-ghost use Rattle.zk_text.specs.Meaning.{text_units, checked_end, meaning_at, no_abbreviation};
+ghost use Rattle.zk_text.specs.Meaning.{text_units, checked_end, meaning_at, no_abbreviation, text_place};
 ghost use Rattle.zk_text.specs.declared.unit.Unit.{Unit};
 
 use crate::checking::{Inside, Outside, check};
@@ -11,6 +11,18 @@ use crate::sink::{Sink, SinkFault};
 use crate::unit::Unit;
 use zk_mem::fault::Fault;
 use zk_mem::memory::Memory;
+
+/// The byte address of the text of an abbreviation, by its number, where its word of the table can be read (Z-Machine
+/// Standards Document 1.1, sections 1.2.2 and 3.3). The table has word addresses.
+pub fn text_place(memory: &Memory, number: u16) -> Option<u32>
+    ensures place { result ≡ text_place memory.now number }
+    ensures even { IfSome result (λ place. place % 2 ≡ 0) }
+{
+    match memory.word(memory.header().abbreviations as u32 + 2 * number as u32) {
+        Ok(word) => Some(2 * word as u32),
+        Err(_) => None,
+    }
+}
 
 /// The byte address after the text at a byte address, where the text has a meaning (Z-Machine
 /// Standards Document 1.1, section 3). It is `TextPastEnd` where the text has no last word inside

@@ -8,6 +8,7 @@ pub loop-number-preserved : goal.loop-number-preserved
 loop-number-preserved c = record {
   faults = subst (AreFaults c.args.memory.now) (sym c.in_ok-push.ensures.items)
       (more_faults c.args.memory.now _ _ c.loop-number.number c.loop-number.invariant.faults
-      c.loop-number.invariant.size c.abbreviation_fault.ensures);
+      c.loop-number.invariant.size c.fault.ensures.value);
+  known = c.fault.ensures.holds;
   size = grind (arith, common_steps);
 }

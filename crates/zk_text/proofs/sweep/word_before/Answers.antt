@@ -1,6 +1,7 @@
 use Rattle.zk_text.specs.Words.{z_characters}
 use Rattle.zk_text.proofs.sweep.word_before.Goals as goal
 
-pub returns : goal.returns
+pub returns-clause-rest : goal.returns-clause-rest
 unfolding z_characters
-returns c = λ ws rest. c.rest_before.ensures _ (c.rest_before-second.ensures _ (c.rest_before-third.ensures _ rest))
+returns-clause-rest g c = λ ws rest.
+    c.rest_before.ensures.rest _ (c.rest_before-second.ensures.rest _ (c.rest_before-third.ensures.rest _ rest))

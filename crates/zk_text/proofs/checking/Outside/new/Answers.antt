@@ -1,5 +1,5 @@
-use Rattle.zk_text.proofs.Sweeping.{none_good}
+use Rattle.zk_text.proofs.Sweeping.{none_known}
 use Rattle.zk_text.proofs.checking.Outside.new.Goals as goal
 
 pub returns : goal.returns
-returns c = λ m. none_good m 96
+returns c = λ m. none_known m 96

@@ -1,7 +1,7 @@
 use Rattle.std.proofs.Common.{◌≡◌, ◌+◌, ◌*◌}
 use Rattle.zk_text.specs.Meaning.{end_by}
 use Rattle.zk_text.proofs.CheckedEnds.{end_from}
-use Rattle.zk_text.proofs.checking.check.Given as goal
+use Rattle.zk_text.proofs.checking.check_some.Given as goal
 
 abbrev pub invariant-loop-i : goal.invariant-loop-i
 invariant-loop-i g l = record {
