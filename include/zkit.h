@@ -68,8 +68,10 @@ typedef struct zkit zkit;
 /* The most bytes in a listing by zkit_list. */
 #define ZKIT_LISTING 67108864
 
-/* The most words of the story that a listing reads from texts. */
+/* The most lines of a listing, the most words of the story in the texts of its lines, and in one of these texts. */
+#define ZKIT_LISTING_FACTS 1048576
 #define ZKIT_LISTING_WORDS 1048576
+#define ZKIT_LISTING_TEXT 131072
 
 /* How a story is played. */
 typedef struct zkit_options {
@@ -133,13 +135,15 @@ enum {
     ZKIT_NO_MEMORY = 4,         /* there is no memory */
     ZKIT_NO_STATE = 5,          /* there is no state to go back to */
     ZKIT_LISTING_TOO_LONG = 6,  /* the listing has more bytes than allowed */
-    ZKIT_LISTING_TOO_MANY_WORDS = 7, /* the texts of the listing have more words than ZKIT_LISTING_WORDS */
+    ZKIT_LISTING_TOO_MANY_WORDS = 7, /* the listing has more than ZKIT_LISTING_FACTS lines, or its texts have more words
+                                   than ZKIT_LISTING_WORDS, or one of them than ZKIT_LISTING_TEXT */
     ZKIT_NOT_A_BLORB = 8,       /* the file is no Blorb file */
     ZKIT_NO_STORY = 9,          /* the Blorb file has no story for the Z-machine, or is cut off */
     ZKIT_NOT_A_KEY = 10,        /* the key ends no line of this story */
     ZKIT_NOT_THERE = 11,        /* there is no such open routine, object or property */
-    ZKIT_NOT_CHANGED = 12       /* the story could not make this change, or the instruction that awaits the answer lies
+    ZKIT_NOT_CHANGED = 12,      /* the story could not make this change, or the instruction that awaits the answer lies
                                    in dynamic memory */
+    ZKIT_LISTING_GOES_ON = 13   /* more of the listing is to come: zkit_list_for again */
 };
 
 /* What zkit_status returns: why the story has stopped. */
@@ -384,6 +388,10 @@ uint32_t zkit_saved(zkit *game, uint32_t kept);
  * counts as none, and the story tells its player so. A saved game with more frames or words than the limits allow stops
  * the story with that limit.
  *
+ * The Standard closes the upper window when a game is restored. Some stories, such as those of Inform's library 6/11,
+ * think that theirs is still there, and would have no status line from then on. So past version 3 the window is given
+ * back with the height that it had, as by zkit_split. In version 3 a story asks for it again.
+ *
  * ZKIT_DONE or ZKIT_NOT_AWAITED. */
 uint32_t zkit_restore(zkit *game, const uint8_t *file, size_t length);
 
@@ -606,11 +614,6 @@ size_t zkit_tallest_row_styles(const zkit *game, uint32_t row, uint8_t *buffer, 
 
 /* Gives the upper window this many rows, 255 at most, as the story's own `split_window` would.
  *
- * A story that goes on from a saved game has no upper window. Some stories, such as those of Inform's library 6/11,
- * think that theirs is still there, and have no status line from then on. For such a story, read the height before
- * zkit_restore; if it is less after it, give it back with this call before the next turn. In version 3 the story asks
- * for the window again.
- *
  * ZKIT_DONE; ZKIT_NOT_AWAITED: the last turn ended in the middle of an instruction's text. */
 uint32_t zkit_split(zkit *game, uint32_t rows);
 
@@ -675,12 +678,23 @@ enum {
  * ZKIT_LISTING bytes.
  *
  * ZKIT_DONE; ZKIT_NOT_AWAITED: there is no such listing; ZKIT_NO_MEMORY; ZKIT_LISTING_TOO_LONG: it has more bytes;
- * ZKIT_LISTING_TOO_MANY_WORDS: the texts for it have more than ZKIT_LISTING_WORDS words of the story, counting the
- * words of an abbreviation at each use. After a refusal there is no listing, and the rest of an earlier one is gone. */
+ * ZKIT_LISTING_TOO_MANY_WORDS: it has more than ZKIT_LISTING_FACTS lines, or the texts in its lines have more than
+ * ZKIT_LISTING_WORDS words of the story, or one of them has more than ZKIT_LISTING_TEXT, counting the words of an
+ * abbreviation at each use. After a refusal there is no listing, and the rest of an earlier one is gone. */
 uint32_t zkit_list(zkit *game, uint32_t listing);
 
-/* The same for a listing of at most this many bytes. Meanwhile the library keeps at most one byte more than that. */
+/* The same for a listing of at most this many bytes. Meanwhile the library keeps at most one byte more than that, and
+ * it stops once there are more. */
 uint32_t zkit_list_within(zkit *game, uint32_t listing, size_t most);
+
+/* The same in parts, so that a host stays responsive: the first call finds out what is to be listed, and each further
+ * call writes lines behind those that wait, until this many steps are used up. A step is a word of text that is looked
+ * at, a byte of a line, or as much other work. Take the text with zkit_listing between the calls: ZKIT_LISTING bytes
+ * may wait. The parts together are what zkit_list lists. Another listing, or a call with another number, ends it.
+ *
+ * ZKIT_LISTING_GOES_ON: call again; ZKIT_DONE: that was all; or as zkit_list, where ZKIT_LISTING_TOO_LONG says that too
+ * many bytes wait. */
+uint32_t zkit_list_for(zkit *game, uint32_t listing, uint32_t steps);
 
 /* Lists the instruction at a byte address of memory as it is now, for zkit_listing, as zkit_list lists the code. What
  * stands there need not be an instruction. The address of the one that comes next is in zkit_place. */

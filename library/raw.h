@@ -145,6 +145,8 @@ struct zk_facts {
 size_t zk_facts(struct zk_handle *game, struct zk_facts *facts, uint8_t *buffer, size_t length);
 /* most: of at most so many bytes */
 uint32_t zk_list(struct zk_handle *game, uint32_t listing, size_t most);
+/* steps: until so many are used up */
+uint32_t zk_list_for(struct zk_handle *game, uint32_t listing, uint32_t steps);
 /* the instruction at an address of memory as it is now */
 uint32_t zk_list_instruction(struct zk_handle *game, uint32_t address, size_t most);
 size_t zk_listing(struct zk_handle *game, uint8_t *buffer, size_t length);

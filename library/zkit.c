@@ -601,6 +601,10 @@ uint32_t zkit_list_within(zkit *game, uint32_t listing, size_t most) {
     return zk_list(&game->play, listing, most);
 }
 
+uint32_t zkit_list_for(zkit *game, uint32_t listing, uint32_t steps) {
+    return zk_list_for(&game->play, listing, steps);
+}
+
 uint32_t zkit_list_instruction(zkit *game, uint32_t address) {
     return zk_list_instruction(&game->play, address, ZKIT_LISTING);
 }

@@ -135,6 +135,7 @@
  * @property {(game: bigint, story: bigint) => void} zkit_story_of
  * @property {(game: bigint, listing: number) => number} zkit_list
  * @property {(game: bigint, listing: number, most: bigint) => number} zkit_list_within
+ * @property {(game: bigint, listing: number, steps: number) => number} zkit_list_for
  * @property {(game: bigint, address: number) => number} zkit_list_instruction
  * @property {Taking} zkit_listing
  */
@@ -162,6 +163,7 @@ const AWAITED = ["stopped", "line", "character", "save", "restore", "room", "tim
 
 // What the functions that answer a story answer.
 const DONE = 0;
+const GOES_ON = 13;
 const NO_ROOM = 3;
 const NO_MEMORY = 4;
 const NOT_A_BLORB = 8;
@@ -1034,6 +1036,20 @@ export class Game {
         const answer = most === undefined ? this.calls.zkit_list(this.at, number)
             : this.calls.zkit_list_within(this.at, number, BigInt(whole(most)));
         return answer === DONE ? decoder().decode(this.taken(this.calls.zkit_listing)) : null;
+    }
+
+    /**
+     * A part of a listing, one of LISTINGS, of so many steps, and whether more is to come: the first one is empty. The
+     * parts together are the listing. Null where there is no such one, it has too many lines or its texts too many
+     * words, or there is no memory.
+     * @param {string} listing
+     * @param {number} steps
+     */
+    listFor(listing, steps) {
+        const answer = this.calls.zkit_list_for(this.at, whole(LISTINGS.indexOf(listing)), whole(steps));
+        if (answer !== DONE && answer !== GOES_ON)
+            return null;
+        return { bytes: this.taken(this.calls.zkit_listing), goesOn: answer === GOES_ON };
     }
 
     /**

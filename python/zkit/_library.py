@@ -13,7 +13,7 @@ from typing import Optional
 VERSION = 0x000100
 STOPPED, LINE, CHARACTER, SAVE, RESTORE, ROOM, TIME, MEMORY = range(8)
 (DONE, NOT_AWAITED, NOT_A_LINE, NO_ROOM, NO_MEMORY, NO_STATE, LISTING_TOO_LONG, LISTING_TOO_MANY_WORDS, NOT_A_BLORB,
- NO_STORY, NOT_A_KEY, NOT_THERE, NOT_CHANGED) = range(13)
+ NO_STORY, NOT_A_KEY, NOT_THERE, NOT_CHANGED, LISTING_GOES_ON) = range(14)
 OPEN_NO_MEMORY, BAD_LIMIT = 6, 7
 NO_STATUS, SCORE, HOURS = range(3)
 
@@ -177,7 +177,7 @@ split = _function("split", _NUMBER, _GAME, _NUMBER)
 status_line = _function("status_line", None, _GAME, ctypes.POINTER(Figures))
 status_name = _function("status_name", _SIZE, _GAME, *_CONTENT)
 story_of = _function("story_of", None, _GAME, ctypes.POINTER(Facts))
-list_within = _function("list_within", _NUMBER, _GAME, _NUMBER, _SIZE)
+list_for = _function("list_for", _NUMBER, _GAME, _NUMBER, _NUMBER)
 list_instruction = _function("list_instruction", _NUMBER, _GAME, _NUMBER)
 listing = _function("listing", _SIZE, _GAME, *_CONTENT)
 story_in = _function("story_in", _NUMBER, *_CONTENT, *_CONTENT, _NEEDED)

@@ -18,6 +18,9 @@ LISTINGS = (
     "properties", "globals", "alphabets", "extension",
 )
 LONGEST_LISTING = 67_108_864
+# a part of a listing has so many steps
+STEPS = 20_000
+
 # an entry of the listing of the dictionary
 ENTRY = re.compile(r'\d+ [0-9a-f]+ "(.*)"$')
 
@@ -125,16 +128,28 @@ class Story:
         if not 0 <= most < 2**63:
             raise ValueError(f"most is {most:,}; it may be 0 to {2**63 - 1:,}")
         with _Opened(self._shared) as game:
-            returned = _library.list_within(game, LISTINGS.index(name), most)
-            if returned == _library.LISTING_TOO_LONG:
-                raise ListingError(f"the listing has more than {most:,} bytes")
-            if returned == _library.LISTING_TOO_MANY_WORDS:
-                raise ListingError("the texts of the listing are too long")
-            if returned != _library.DONE:
-                raise OutOfMemory("out of memory")
             parts: list[bytes] = []
-            _library.drain(_library.listing, game, ctypes.create_string_buffer(65_536), parts)
+            while _goes_on(game, LISTINGS.index(name), parts):
+                _limit(parts, most)
+            _limit(parts, most)
             return b"".join(parts).decode("utf-8", "replace")
+
+
+def _goes_on(game: int, listing: int, parts: list[bytes]) -> bool:
+    """Makes a further part of a listing, between two of which Python hears a Ctrl-C, and tells whether more is to come."""
+    returned = _library.list_for(game, listing, STEPS)
+    if returned == _library.LISTING_TOO_MANY_WORDS:
+        raise ListingError("the listing has too many lines, or its texts are too long")
+    if returned not in (_library.DONE, _library.LISTING_GOES_ON):
+        raise OutOfMemory("out of memory")
+    _library.drain(_library.listing, game, ctypes.create_string_buffer(65_536), parts)
+    return returned == _library.LISTING_GOES_ON
+
+
+def _limit(parts: list[bytes], most: int) -> None:
+    """Refuses a listing that has more bytes than it may."""
+    if sum(map(len, parts)) > most:
+        raise ListingError(f"the listing has more than {most:,} bytes")
 
 
 class _Shared:

@@ -28,6 +28,9 @@ const PATIENCE = 1000;
 /** So many milliseconds pass at most before what was repeated is posted, and messages are let in. */
 const PART = 50;
 
+/** So many steps has a part of a listing: some hundredths of a second. */
+const LISTED_AT_ONCE = 20_000;
+
 /** The key that an empty line of a walkthrough is. */
 const ENTER = 10;
 
@@ -65,6 +68,25 @@ function replace(open) {
     if (game)
         game.close();
     game = other;
+}
+
+/**
+ * A listing of a game's story, made in parts between which messages come in; null where it is refused.
+ * @param {any} it
+ * @param {string} listing
+ */
+async function listed(it, listing) {
+    const decoder = new TextDecoder("utf-8", { ignoreBOM: true });
+    let text = "";
+    for (;;) {
+        const part = it.listFor(listing, LISTED_AT_ONCE);
+        if (!part)
+            return null;
+        text += decoder.decode(part.bytes, { stream: part.goesOn });
+        if (!part.goesOn)
+            return text;
+        await breath();
+    }
 }
 
 /**
@@ -278,7 +300,7 @@ const CALLS = {
     run: ({ answer }) => run(answer),
     replay: ({ answers }) => replay(answers),
     image: () => game.image(),
-    list: ({ listing }) => game.list(listing),
+    list: ({ listing }) => listed(game, listing),
 };
 
 page.onmessage = async (/** @type {MessageEvent} */ event) => {

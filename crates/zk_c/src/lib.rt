@@ -24,7 +24,8 @@ ghost use Rattle.zk_host.specs.Names.{IsObjectName};
 ghost use Rattle.zk_host.specs.Marks.{run_of, run_told, taken_from, with_styles};
 ghost use Rattle.zk_host.specs.Numbers.{address_number, answer_number, reason_number, status_number};
 ghost use Rattle.zk_host.specs.Exports.{IsAnswered, IsImaged, IsListed, IsOpened, IsOpenedAgain, IsSnapshotPut, IsTurn};
-ghost use Rattle.zk_host.specs.Exports.{IsChanging, IsCloned, IsCovering, IsHeld, IsListedAt, IsOpenedBeside};
+ghost use Rattle.zk_host.specs.Exports.{IsChanging, IsCloned, IsCovering, IsHeld, IsListedAt, IsListedPart};
+ghost use Rattle.zk_host.specs.Exports.{IsOpenedBeside, IsRestoring};
 ghost use Rattle.zk_host.specs.Exports.{IsResumedBeside, IsSeeded, IsUndo, OnPlay, facts_of, limits_said, view_if};
 
 use std::alloc::Global;
@@ -36,8 +37,8 @@ use zk_host::listing::listing_of;
 use zk_host::looking::{FrameFigures, ObjectFigures, PlaceFigures, PropertyFigures};
 use zk_host::marks::Run;
 use zk_host::numbers::{
-    address_number, answer_number, reason_number, refused_number, snapshot_number, status_number,
-    turn_number,
+    address_number, answer_number, part_number, reason_number, refused_number, snapshot_number,
+    status_number, turn_number,
 };
 use zk_host::options::{limits_said, view_if};
 use zk_host::play::changing::{move_of, word_of};
@@ -296,12 +297,12 @@ pub extern "C" fn zk_saved(alloc: Global, game: &mut Zkit, kept: u32) -> u32
     answer_number(on_play!(alloc, game, NOT_AWAITED, play => play.save(kept != 0)))
 }
 
-/// Answers by the file of a saved game: `answer_restore` of `zk_vm`. Answers 0, or 1 where none is awaited.
+/// Answers by the file of a saved game: `answer_restore` of `zk_vm`. Past version 3 the upper window keeps its height.
+/// Answers 0, or 1 where none is awaited.
 #[unsafe(no_mangle)]
 pub extern "C" fn zk_restore(alloc: Global, game: &mut Zkit, file: &[u8]) -> u32
     ensures { OnPlay game.old.play game.new.play
-        (λ old new. IsAnswered (restore_refused (awaited old)) old.machine old new
-        (File (Some file.now)) result) (result ≡ 1) }
+        (λ old new. IsRestoring (restore_refused (awaited old)) old new (File (Some file.now)) result) (result ≡ 1) }
 {
     answer_number(on_play!(alloc, game, NOT_AWAITED, play => play.restore(Some(file))))
 }
@@ -310,9 +311,7 @@ pub extern "C" fn zk_restore(alloc: Global, game: &mut Zkit, file: &[u8]) -> u32
 #[unsafe(no_mangle)]
 pub extern "C" fn zk_restore_none(alloc: Global, game: &mut Zkit) -> u32
     ensures { OnPlay game.old.play game.new.play
-        (λ old new. IsAnswered (restore_refused (awaited old)) old.machine old new (File None)
-        result)
-        (result ≡ 1) }
+        (λ old new. IsRestoring (restore_refused (awaited old)) old new (File None) result) (result ≡ 1) }
 {
     answer_number(on_play!(alloc, game, NOT_AWAITED, play => play.restore(None)))
 }
@@ -832,6 +831,18 @@ pub extern "C" fn zk_list(alloc: Global, game: &mut Zkit, listing: u32, most: us
     let listed = play.list(alloc, listing, most);
     game.put(alloc, play);
     answer_number(listed)
+}
+
+/// Lists the story's file in parts, for `zk_listing`: begins the listing of a number, or goes on with it until so many
+/// steps are used up. Answers 13 where more is to come, 0 where that was all, 1 where there is no such listing, 4 where
+/// there is no memory, 6 where too many bytes wait, or 7 where it has too many facts or its texts have too many words.
+/// Where it is refused, nothing is left of an earlier listing.
+#[unsafe(no_mangle)]
+pub extern "C" fn zk_list_for(alloc: Global, game: &mut Zkit, listing: u32, steps: u32) -> u32
+    ensures { OnPlay game.old.play game.new.play
+        (λ old new. IsListedPart listing old new result) (result ≡ 1) }
+{
+    part_number(on_play!(alloc, game, NOT_AWAITED, play => play.list_for(alloc, listing, steps)))
 }
 
 /// Lists the instruction at a byte address of memory as it is now, in at most so many bytes, for `zk_listing`. Answers

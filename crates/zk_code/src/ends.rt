@@ -102,4 +102,13 @@ impl TextEnds {
         }
         Ok(TextEnds { blocks })
     }
+
+    /// The byte address after the text at an address, where it has an end: `Memory::text_end`.
+    pub fn text_end(&self, memory: &Memory, address: u32) -> Option<u32>
+        requires { KnowsEnds memory.now self.now }
+        ensures value { result ≡ text_end_at memory.now address }
+        ensures within { IfSome result (λ end. end ≤ length memory.now.bytes) }
+    {
+        text_end(memory, self.blocks.as_slice(), address)
+    }
 }

@@ -9,4 +9,5 @@ pub mod Naming
 pub mod Hashing
 pub mod Seeing
 pub mod Running
+pub mod Listings
 pub mod guards

@@ -1,6 +1,6 @@
 -- What the calls of a play answer, and how they leave it.
 use Rattle.std.specs.Prelude.{◌≡◌, ◌≤◌, ◌⊎◌, ◌+◌, ◌-◌, ◌^◌, min, ℕ, Bool, true, false, List, length, Option, Some, None}
-use Rattle.std.specs.Prelude.{Result, Ok, Err, [], drop, is_none, map, replicate, if◌then◌else◌}
+use Rattle.std.specs.Prelude.{Result, Ok, Err, [], drop, is_none, map, nat_lt, replicate, ◌&&◌, if◌then◌else◌}
 use Rattle.std.specs.Global.{Vec, Box}
 use Rattle.zk_text.specs.Extra.{own_characters}
 use Rattle.zk_step.specs.declared.state.game_state.View.{View}
@@ -13,7 +13,7 @@ use Rattle.zk_vm.specs.Halts.{IsLeftAs, IsUndone, event_waited}
 use Rattle.zk_vm.specs.Log.{Entry, signals}
 use Rattle.zk_vm.specs.Logged.{Ran, RunsOn}
 use Rattle.zk_vm.specs.Pausing.{StandsShort}
-use Rattle.zk_vm.specs.Sessions.{Session, begun, given, with_seed}
+use Rattle.zk_vm.specs.Sessions.{Session, begun, given, with_height, with_seed}
 use Rattle.zk_vm.specs.Plays.{image_of}
 use Rattle.zk_host.specs.declared.collected.Collected.{Collected}
 use Rattle.zk_host.specs.declared.play.Asked.{Asked}
@@ -28,14 +28,11 @@ use Rattle.zk_host.specs.declared.drawing.StatusFigures.{StatusFigures}
 use Rattle.zk_host.specs.Collecting.{Collects, has_no_room, is_lost, no_text, nothing_collected, wants_pause}
 use Rattle.zk_host.specs.Drawing.{HasStatus, figures_or_none}
 use Rattle.zk_host.specs.Names.{HasName}
-use Rattle.zk_mem.specs.Fresh.{fresh, plain_setup}
 use Rattle.zk_mem.specs.Map.{MemoryMap}
 use Rattle.zk_mem.specs.Story.{refusal}
 use Rattle.zk_mem.specs.declared.story.OpenError.TheVariants.{OutOfMemory}
 use Rattle.zk_snapshot.specs.Opening.{IsOpened, IsRefused}
 use Rattle.zk_snapshot.specs.Snapshots.{HasSnapshot, longest_of, snapshot_of}
-use Rattle.zk_host.specs.declared.listing.Listing.{Listing}
-use Rattle.zk_host.specs.Listings.{IsListing, IsUnlisted}
 use Rattle.zk_step.specs.Terminating.{is_terminating}
 use Rattle.zk_host.specs.Typing.{is_line, character_code}
 use Rattle.zk_host.specs.Within.{AreWithin}
@@ -52,6 +49,7 @@ play_of story m = record {
   text = nothing_collected;
   name = nothing_collected;
   listing = no_text;
+  run = None;
   stopped = None;
   cover = None;
 }
@@ -146,6 +144,25 @@ pub record IsGiven (before : Session) (old new : Play) (a : Answer) : Type 0 whe
 abbrev pub IsGivenUnless : Option Refusal → Session → Play → Play → Result (Unit {0}) Refusal → Answer → Type 0
 IsGivenUnless None before old new result a = (result ≡ Ok tt) × IsGiven before old new a
 IsGivenUnless (Some r) before old new result a = (result ≡ Err r) × (new ≡ old)
+
+-- a machine after an answer by a saved game: a restore closes the upper window (section 8.6.1), and past version 3 it is
+-- given back with the height that it had, as `split_window` would
+abbrev pub with_height_kept : ℕ → Session → Session
+with_height_kept height s =
+    if nat_lt 3 s.state.game.memory.version && nat_lt s.state.game.windows.height height
+    then with_height s height
+    else s
+
+-- such an answer was given to the machine, and nothing else has changed
+pub record IsRestored (old new : Play) (a : Answer) : Type 0 where
+  pub before : Session
+  pub answered : IsLeftAs before (given old.machine a) (given old.machine a).stopped
+  pub machine : new.machine ≡ with_height_kept old.machine.state.game.windows.height before
+  pub beside : new ≡ record old { machine = new.machine }
+
+abbrev pub IsRestoredUnless : Option Refusal → Play → Play → Result (Unit {0}) Refusal → Answer → Type 0
+IsRestoredUnless None old new result a = (result ≡ Ok tt) × IsRestored old new a
+IsRestoredUnless (Some r) old new result a = (result ≡ Err r) × (new ≡ old)
 
 -- why a line is refused that a key has ended, by what is waited for
 abbrev pub line_refused : Option Event → MemoryMap → List ℕ → ℕ → Option Refusal
@@ -251,28 +268,6 @@ pub record IsStatus (old new : Play) (f : StatusFigures) : Type 0 where
   pub figures : f ≡ figures_or_none status
   pub name : HasName old.machine.state.game.memory status new.name
   pub beside : new ≡ record old { name = new.name }
-
--- ---- listings
-
--- a story's file as it is before its first instruction, with 16 states to go back to
-abbrev pub file_of : Play → MemoryMap
-file_of p = fresh p.machine.state.game.memory.file (plain_setup 16)
-
--- a play without a listing
-abbrev pub with_none_listed : Play → Play
-with_none_listed p = record p { listing = no_text }
-
--- the story's file is listed in at most so many bytes, in place of an earlier listing; or it is not, and there is none
-abbrev pub IsListedBy : Listing → ℕ → Play → Play → Result (Unit {0}) Refusal → Type 0
-IsListedBy l most old new (Ok u) = IsListing l (file_of old) new.listing.bytes × (length new.listing.bytes ≤ most)
-    × (new ≡ record old { listing = new.listing })
-IsListedBy l most old new (Err r) = IsUnlisted l (file_of old) most r × (new ≡ with_none_listed old)
-
--- memory as it stands is listed in the same way
-abbrev pub IsListedNow : Listing → ℕ → Play → Play → Result (Unit {0}) Refusal → Type 0
-IsListedNow l most old new (Ok u) = IsListing l old.machine.state.game.memory new.listing.bytes
-    × (length new.listing.bytes ≤ most) × (new ≡ record old { listing = new.listing })
-IsListedNow l most old new (Err r) = IsUnlisted l old.machine.state.game.memory most r × (new ≡ with_none_listed old)
 
 -- ---- snapshots
 

@@ -21,11 +21,12 @@ use Rattle.zk_vm.specs.Sessions.{Session}
 use Rattle.zk_host.specs.declared.facts.Facts.{Facts}
 use Rattle.zk_host.specs.declared.listing.Listing.{Listing}
 use Rattle.zk_host.specs.declared.listing.Listing.TheVariants as listing
-use Rattle.zk_host.specs.Calls.{awaited, begun_play, read_refused, IsGiven, IsGoneBack, IsListedBy, IsOpenedFrom}
-use Rattle.zk_host.specs.Calls.{IsBegunBeside, IsClone, IsListedNow, IsNoting, IsPlayOpenedBeside, IsReseeded}
-use Rattle.zk_host.specs.Calls.{IsSnapshot, IsTurned, with_none_listed}
+use Rattle.zk_host.specs.Calls.{awaited, begun_play, read_refused, IsGiven, IsGoneBack, IsOpenedFrom, IsRestored}
+use Rattle.zk_host.specs.Calls.{IsBegunBeside, IsClone, IsNoting, IsPlayOpenedBeside, IsReseeded}
+use Rattle.zk_host.specs.Calls.{IsSnapshot, IsTurned}
+use Rattle.zk_host.specs.ListingRuns.{IsListedBy, IsListedFor, IsListedNow, with_none_listed}
 use Rattle.zk_host.specs.Changing.{IsChangedBy}
-use Rattle.zk_host.specs.Numbers.{answer_number, snapshot_number, turn_number, refused_number}
+use Rattle.zk_host.specs.Numbers.{answer_number, part_number, snapshot_number, turn_number, refused_number}
 
 -- a handle has a play before and after, of which something holds; or it is closed and stays so, and something else
 -- holds
@@ -78,6 +79,11 @@ IsTurn old new steps room n =
 abbrev pub IsAnswered : Option Refusal → Session → Play → Play → Answer → ℕ → Type 0
 IsAnswered None before old new a n = (n ≡ 0) × IsGiven before old new a
 IsAnswered (Some r) before old new a n = (n ≡ refused_number r) × (new ≡ old)
+
+-- the same of an answer by a saved game
+abbrev pub IsRestoring : Option Refusal → Play → Play → Answer → ℕ → Type 0
+IsRestoring None old new a n = (n ≡ 0) × IsRestored old new a
+IsRestoring (Some r) old new a n = (n ≡ refused_number r) × (new ≡ old)
 
 -- a host has gone back, and what is told of it
 abbrev pub IsUndo : Play → Play → ℕ → Type 0
@@ -138,6 +144,11 @@ abbrev pub IsListed : Option Listing → ℕ → Play → Play → ℕ → Type 
 IsListed None most old new n = (n ≡ 1) × (new ≡ with_none_listed old)
 IsListed (Some listing) most old new n =
     (result : Result (Unit {0}) Refusal) × (n ≡ answer_number result) × IsListedBy listing most old new result
+
+-- a part of a listing, and what is told of it: 13 where more is to come
+abbrev pub IsListedPart : ℕ → Play → Play → ℕ → Type 0
+IsListedPart number old new n =
+    (result : Result Bool Refusal) × (n ≡ part_number result) × IsListedFor number old new result
 
 -- an instruction of memory as it stands is listed
 abbrev pub IsListedAt : ℕ → ℕ → Play → Play → ℕ → Type 0

@@ -10,6 +10,7 @@ pub mod NameSinks
 pub mod Names
 pub mod Typing
 pub mod Calls
+pub mod ListingRuns
 pub mod Changing
 pub mod Numbers
 pub mod Exports

@@ -1,11 +1,13 @@
 -- Listings of a story.
-use Rattle.std.specs.Prelude.{◌≡◌, ◌<◌, ◌⊎◌, ℕ, false, List, [], ◌∷◌, map, Option, Some, None, if◌then◌else◌, ◌==◌}
-use Rattle.std.specs.Prelude.{length}
+use Rattle.std.specs.Prelude.{◌≡◌, ◌≤◌, ◌<◌, ◌+◌, ℕ, false, List, [], ◌∷◌, ◌++◌, map, Option, Some, None, ◌==◌}
+use Rattle.std.specs.Prelude.{drop, length, min, take, if◌then◌else◌}
 use Rattle.zk_mem.specs.Map.{MemoryMap}
+use Rattle.zk_text.specs.Walked.{words_walked}
 use Rattle.zk_inspect.specs.CodeFacts.{AreReachedFacts}
 use Rattle.zk_inspect.specs.Facts.{AreNone}
 use Rattle.zk_inspect.specs.Findings.{AreFindings}
-use Rattle.zk_inspect.specs.Lines.{AreLines}
+use Rattle.zk_inspect.specs.Lines.{AreLines, lines_of}
+use Rattle.zk_inspect.specs.LineTexts.{line_text}
 use Rattle.zk_inspect.specs.SectionFacts.{AreOfSection, AreSomeOfSection}
 use Rattle.zk_inspect.specs.declared.fact.Fact.{Fact}
 use Rattle.zk_inspect.specs.declared.fact.Fact.TheVariants as fact
@@ -13,6 +15,9 @@ use Rattle.zk_inspect.specs.declared.section.Section.TheVariants as section
 use Rattle.zk_inspect.specs.declared.check.finding.Finding.{Finding}
 use Rattle.zk_host.specs.declared.listing.Listing.{Listing}
 use Rattle.zk_host.specs.declared.listing.Listing.TheVariants as listing
+use Rattle.zk_host.specs.declared.listing.LinesEnd.{LinesEnd}
+use Rattle.zk_host.specs.declared.listing.LinesEnd.TheVariants as end
+use Rattle.zk_host.specs.declared.listing.Part.{Part}
 use Rattle.zk_host.specs.declared.play.Refusal.{Refusal}
 use Rattle.zk_host.specs.declared.play.Refusal.TheVariants as refused
 
@@ -34,13 +39,14 @@ AreSomeListed (listing.Instruction a) m facts = AreNone facts
 abbrev pub IsListing : Listing → MemoryMap → List ℕ → Type 0
 IsListing l m text = AreLines (AreListed l m) false m text
 
--- a listing of a story has more than so many bytes, or what there is memory for has
+-- a listing of a story has more than so many bytes
 pub record IsLonger (l : Listing) (m : MemoryMap) (most : ℕ) : Type 0 where
   pub text : List ℕ
-  pub is : IsListing l m text ⊎ AreLines (AreSomeListed l m) false m text
+  pub is : IsListing l m text
   pub longer : most < length text
 
--- why there is no listing of at most so many bytes: it has more, its texts have many words, or there is no memory
+-- why there is no listing of at most so many bytes: it has more, its texts have many words or it has many facts, or
+-- there is no memory
 abbrev pub IsUnlisted : Listing → MemoryMap → ℕ → Refusal → Type 0
 IsUnlisted l m most refused.TooLong = IsLonger l m most
 IsUnlisted l m most refused.TooManyWords = Unit {0}
@@ -50,6 +56,54 @@ IsUnlisted l m most refused.NotALine = ⊥
 IsUnlisted l m most refused.NoState = ⊥
 IsUnlisted l m most refused.NotAKey = ⊥
 IsUnlisted l m most refused.NotChanged = ⊥
+
+-- ---- lines in parts
+
+-- the words of the text that the line of a fact shows, those of an abbreviation with each use
+abbrev pub text_words : MemoryMap → Option ℕ → ℕ
+text_words m None = 0
+text_words m (Some a) = words_walked m a
+
+abbrev pub fact_words : MemoryMap → Fact → ℕ
+fact_words m f = text_words m (line_text m f)
+
+-- those of some facts
+unfoldable pub all_words : MemoryMap → List Fact → ℕ
+all_words m [] = 0
+all_words m (f ∷ fs) = fact_words m f + all_words m fs
+
+-- the lines of the first so many facts were put behind a text, and the words of their texts counted off
+pub record AreWritten (m : MemoryMap) (facts : List Fact) (n words left : ℕ) (before after : List ℕ) : Type 0 where
+  pub few : n ≤ length facts
+  pub text : after ≡ before ++ lines_of false m (take n facts)
+  pub counted : left + all_words m (take n facts) ≡ words
+
+-- a first part of some bytes was put behind a text
+pub record IsCut (before after bytes : List ℕ) : Type 0 where
+  pub part : List ℕ
+  pub rest : List ℕ
+  pub whole : bytes ≡ part ++ rest
+  pub text : after ≡ before ++ part
+
+-- the next fact's text has more words than one may have, or than are left
+pub record HasManyWords (m : MemoryMap) (rest : List Fact) (left : ℕ) : Type 0 where
+  pub next : Fact
+  pub others : List Fact
+  pub is : rest ≡ next ∷ others
+  pub many : min left 131072 < fact_words m next
+
+-- how the writing of lines ends: all were written, or those for which there were steps, or those before a text of too
+-- many words; or a line was cut off
+abbrev pub IsPartBy : LinesEnd → MemoryMap → List Fact → (n words left : ℕ) → (before after : List ℕ) → Type 0
+IsPartBy end.Over m facts n words left before after =
+    AreWritten m facts n words left before after × (n ≡ length facts)
+IsPartBy end.Paused m facts n words left before after = AreWritten m facts n words left before after
+IsPartBy end.TooManyWords m facts n words left before after =
+    AreWritten m facts n words left before after × HasManyWords m (drop n facts) left
+IsPartBy end.Cut m facts n words left before after = IsCut before after (lines_of false m facts)
+
+abbrev pub IsPart : MemoryMap → List Fact → ℕ → (before after : List ℕ) → Part → Type 0
+IsPart m facts words before after p = IsPartBy p.end m facts p.lines words p.words before after
 
 -- the listings by their numbers
 abbrev pub listing_numbered : ℕ → Option Listing

@@ -45,6 +45,11 @@ abbrev pub answer_number : Result (Unit {0}) Refusal → ℕ
 answer_number (Ok u) = 0
 answer_number (Err r) = refused_number r
 
+-- whether more of a listing is to come
+abbrev pub part_number : Result Bool Refusal → ℕ
+part_number (Ok more) = if more then 13 else 0
+part_number (Err r) = refused_number r
+
 -- why a story has stopped; 0 where it has not
 abbrev pub stop_number : Stop → ℕ
 stop_number Quit = 1

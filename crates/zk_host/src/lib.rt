@@ -10,6 +10,7 @@ pub mod files;
 pub mod handle;
 pub mod laws;
 pub mod listing;
+mod listing_run;
 pub mod looking;
 mod loose;
 pub mod marks;

@@ -1,10 +1,12 @@
 // Listings of a story, as text that is taken in parts.
 
-ghost use Rattle.std.specs.Prelude.{◌≡◌, ◌<◌, ◌≤◌, [], ℕ, false, IfErr, IfOk, OnOk, is_err, length};
+ghost use Rattle.std.specs.Prelude.{◌≡◌, ◌≤◌, ◌∷◌, ◌++◌, ◌⊎◌, [], false, min, IfErr, IfOk, OnOk, OnErr, is_err, length};
 ghost use Rattle.zk_inspect.specs.Facts.{AreNone, GaveBy};
-ghost use Rattle.zk_inspect.specs.Lines.{WroteLines};
-ghost use Rattle.zk_host.specs.Listings.{AreListed, AreSomeListed, IsListing, IsLonger, IsUnlisted, listing_numbered};
+ghost use Rattle.zk_inspect.specs.Lines.{lines_of};
+ghost use Rattle.zk_host.specs.Listings.{AreListed, AreSomeListed, IsListing, IsPart, IsUnlisted, IsCut, fact_words};
+ghost use Rattle.zk_host.specs.Listings.{listing_numbered};
 ghost use Rattle.zk_host.specs.declared.listing.Listing.TheVariants as listing;
+ghost use Rattle.zk_host.specs.declared.play.Refusal.TheVariants as refused;
 
 use crate::bounded::Bounded;
 use crate::play::Refusal;
@@ -12,13 +14,25 @@ use crate::text::Text;
 use std::alloc::{AllocError, Global};
 use zk_inspect::check::check;
 use zk_inspect::check::finding_lines::list_findings;
-use zk_inspect::fact::{Fact, FactWriter};
+use zk_inspect::fact::{Fact, FactList, FactWriter};
+use zk_inspect::line_text::line_text;
 use zk_inspect::listing::{list_reached, list_section};
 use zk_inspect::plain_text::PlainText;
 use zk_inspect::section::Section;
 use zk_mem::memory::Memory;
-use zk_term::line_writer::{LineWriter, TargetWriter};
+use zk_term::line_writer::TargetWriter;
 use zk_term::target::Failed;
+use zk_text::walked::words_walked;
+
+/// So many facts at most has a listing.
+const MOST_FACTS: usize = 1_048_576;
+
+/// The texts that the lines of a listing show have so many words at most, those of an abbreviation with each use. The
+/// longest story has 262,144 words.
+pub(crate) const MOST_WORDS: u32 = 1_048_576;
+
+/// And each of them has so many.
+const LONGEST_TEXT: u32 = 131_072;
 
 /// What is listed of a story.
 #[derive(Clone, Copy, Drop)]
@@ -90,44 +104,123 @@ fn list_facts<F: FactWriter>(
     }
 }
 
-/// Writes the lines of a listing.
-fn list_lines<P: LineWriter>(
+/// The facts of a listing.
+pub(crate) fn facts_of(
     alloc: Global,
     memory: &Memory,
     listing: Listing,
-    writer: &mut P,
-) -> Result<(), AllocError>
-    ensures { WroteLines (is_err result) (AreListed listing memory.now) (AreSomeListed listing memory.now)
-        false memory.now P.wrote writer.old writer.new }
+) -> Result<Vec<Fact>, Refusal>
+    ensures facts { IfOk result (λ facts. AreListed listing memory.now facts.items) }
+    ensures refused { IfErr result (λ r. (r ≡ refused.Memory) ⊎ (r ≡ refused.TooManyWords)) }
 {
-    let mut text = PlainText::new(memory, false, writer);
-    list_facts(alloc, memory, listing, &mut text)
-}
-
-/// Writes a listing. Where it is not written to its end, it has more bytes than were taken, or as many.
-fn write(
-    alloc: Global,
-    memory: &Memory,
-    listing: Listing,
-    target: &mut Bounded,
-) -> Result<(), Failed>
-    requires { target.old.text.bytes ≡ [] }
-    ensures whole { OnOk result (IsListing listing memory.now target.new.text.bytes) }
-    ensures longer { (most : ℕ) → most < length target.new.text.bytes →
-        IsLonger listing memory.now most }
-{
-    let mut writer = TargetWriter::new(target);
-    let listed = list_lines(alloc, memory, listing, &mut writer);
-    match writer.finish() {
-        Ok(()) => match listed {
-            Ok(()) => Ok(()),
-            Err(_) => Err(Failed),
-        },
-        Err(Failed) => Err(Failed),
+    let mut list = FactList::within(alloc, MOST_FACTS);
+    let listed = list_facts(alloc, memory, listing, &mut list);
+    let is_full = list.is_full();
+    match (listed, list.finish()) {
+        (Ok(()), Ok(facts)) => Ok(facts),
+        (Ok(()), Err(_)) if is_full => Err(Refusal::TooManyWords),
+        _ => Err(Refusal::Memory),
     }
 }
 
-/// A listing of a story, of so many bytes at most. One is refused, too, where its texts have too many words.
+/// How many words the text has that the line of a fact shows, up to so many.
+fn fact_words(memory: &Memory, fact: Fact, most: u32) -> u32
+    ensures { result ≡ min (fact_words memory.now fact) most }
+{
+    match line_text(memory, fact) {
+        Some(text) => words_walked(memory, text, most),
+        None => 0,
+    }
+}
+
+/// Writes the line of a fact.
+fn write_line(memory: &Memory, fact: Fact, target: &mut Bounded) -> Result<(), Failed>
+    ensures whole { OnOk result
+        (target.new.text.bytes ≡ target.old.text.bytes ++ lines_of false memory.now (fact ∷ [])) }
+    ensures cut { OnErr result
+        (IsCut target.old.text.bytes target.new.text.bytes (lines_of false memory.now (fact ∷ []))) }
+    ensures bound { target.new.most ≡ target.old.most }
+{
+    let mut writer = TargetWriter::new(target);
+    let mut text = PlainText::new(memory, false, &mut writer);
+    text.write(fact);
+    writer.finish()
+}
+
+/// A step stands for a word of text that is looked at, for a byte of a line, or for as much work otherwise. So many a
+/// line takes beside these: what is read of a property list, and of the whole story for an IFID.
+fn steps_of(fact: Fact) -> usize {
+    match fact {
+        Fact::Object(_) => 400,
+        Fact::Ifid => 8_000,
+        _ => 8,
+    }
+}
+
+/// Why no further lines were written.
+#[derive(Clone, Copy, Drop)]
+pub(crate) enum LinesEnd {
+    /// There are none.
+    Over,
+    /// The steps are used up.
+    Paused,
+    /// The text of the next one has too many words.
+    TooManyWords,
+    /// The next one is too long, or there is no memory for it.
+    Cut,
+}
+
+/// How many lines of some facts were written, how many words may still be looked at, and why it were no more.
+#[derive(Clone, Copy, Drop)]
+pub(crate) struct Part {
+    pub lines: usize,
+    pub words: u32,
+    pub end: LinesEnd,
+}
+
+/// Writes the lines of facts, until so many steps are used up.
+pub(crate) fn write_lines(
+    memory: &Memory,
+    facts: &[Fact],
+    words: u32,
+    steps: usize,
+    target: &mut Bounded,
+) -> Part
+    ensures part { IsPart memory.now facts.now words target.old.text.bytes target.new.text.bytes result }
+    ensures some { 0 < steps → result.end ≡ LinesEnd.Paused → 0 < result.lines }
+    ensures bound { target.new.most ≡ target.old.most }
+{
+    let mut part = Part {
+        lines: 0,
+        words,
+        end: LinesEnd::Over,
+    };
+    let mut used = 0usize;
+    for fact in facts {
+        if used >= steps {
+            part.end = LinesEnd::Paused;
+            return part;
+        }
+        let count = fact_words(memory, *fact, LONGEST_TEXT + 1);
+        if count > part.words.min(LONGEST_TEXT) {
+            part.end = LinesEnd::TooManyWords;
+            return part;
+        }
+        let before = target.text.len();
+        if write_line(memory, *fact, target).is_err() {
+            part.end = LinesEnd::Cut;
+            return part;
+        }
+        part.lines += 1;
+        part.words -= count;
+        let line = target.text.len().saturating_sub(before);
+        used = used.saturating_add(steps_of(*fact) + count as usize).saturating_add(line);
+    }
+    part
+}
+
+/// A listing of a story, of so many bytes at most. One is refused, too, where it has too many facts or its texts too
+/// many words.
 pub(crate) fn list(
     alloc: Global,
     memory: &Memory,
@@ -138,13 +231,15 @@ pub(crate) fn list(
     ensures bounded { IfOk result (λ text. length text.bytes ≤ most) }
     ensures refused { IfErr result (λ r. IsUnlisted listing memory.now most r) }
 {
-    let mut target = Bounded::new(alloc, most);
-    let written = write(alloc, memory, listing, &mut target);
+    let facts = facts_of(alloc, memory, listing)?;
+    let mut target = Bounded::new(Text::new(alloc), most);
+    let part = write_lines(memory, facts.as_slice(), MOST_WORDS, usize::MAX, &mut target);
     if most < target.text.len() {
         return Err(Refusal::TooLong);
     }
-    match written {
-        Ok(()) => Ok(target.text),
-        Err(_) => Err(target.refusal()),
+    match part.end {
+        LinesEnd::Over => Ok(target.text),
+        LinesEnd::Cut => Err(Refusal::Memory),
+        LinesEnd::Paused | LinesEnd::TooManyWords => Err(Refusal::TooManyWords),
     }
 }

@@ -2,7 +2,7 @@
 
 ghost use Rattle.std.specs.Prelude.{◌≡◌};
 ghost use Rattle.zk_host.specs.Numbers.{address_number, event_number, reason_number, refused_number, status_number};
-ghost use Rattle.zk_host.specs.Numbers.{answer_number, snapshot_number, stop_number, turn_number};
+ghost use Rattle.zk_host.specs.Numbers.{answer_number, part_number, snapshot_number, stop_number, turn_number};
 
 use crate::play::{Asked, Refusal, SnapshotRefusal};
 use zk_snapshot::opening::SnapshotError;
@@ -56,6 +56,17 @@ pub fn answer_number(answered: Result<(), Refusal>) -> u32
 {
     match answered {
         Ok(()) => 0,
+        Err(refusal) => refused_number(refusal),
+    }
+}
+
+/// Whether more of a listing is to come: then 13, else 0.
+pub fn part_number(listed: Result<bool, Refusal>) -> u32
+    ensures { result ≡ part_number listed }
+{
+    match listed {
+        Ok(true) => 13,
+        Ok(false) => 0,
         Err(refusal) => refused_number(refusal),
     }
 }

@@ -4,16 +4,14 @@ ghost use Rattle.std.specs.Prelude.{◌≡◌, ◌≤◌, ◌+◌, ◌⊎◌, If
 ghost use Rattle.zk_vm.specs.Answers.Answer.{Typed, GameKept, File};
 ghost use Rattle.zk_vm.specs.Bounds.{AreInRange};
 ghost use Rattle.zk_vm.specs.Plays.{codes_read, image_of};
-ghost use Rattle.zk_mem.specs.Fresh.{fresh, plain_setup};
 ghost use Rattle.zk_mem.specs.Header.{header_of};
 ghost use Rattle.zk_mem.specs.Story.{refusal};
 ghost use Rattle.zk_term.specs.Windows.{row_cells, row_text, tallest_row_cells, tallest_row_text};
 ghost use Rattle.zk_vm.specs.Pausing.{HasCome, come_to};
 ghost use Rattle.zk_vm.specs.Sessions.{with_grid_forgotten, with_height};
+ghost use Rattle.zk_host.specs.Calls.{with_height_kept};
 ghost use Rattle.zk_host.specs.Collecting.{Collects, is_lost, wants_pause};
 ghost use Rattle.zk_host.specs.Drawing.{longest_line, row_bytes, row_number, row_styles, window_of};
-ghost use Rattle.zk_host.specs.Listings.{IsListing, IsUnlisted};
-ghost use Rattle.zk_host.specs.declared.listing.Listing.TheVariants as listing;
 ghost use Rattle.zk_host.specs.Marks.{run_of, run_told, taken_from, with_styles};
 ghost use Rattle.zk_snapshot.specs.Opening.{IsRefused};
 ghost use Rattle.zk_host.specs.Texts.{IsTaken};
@@ -22,6 +20,7 @@ mod beside;
 pub mod changing;
 mod cloning;
 mod coverage;
+mod listing;
 mod looking;
 
 use crate::collected::Collected;
@@ -29,7 +28,7 @@ use crate::drawing::{
     StatusFigures, WindowFigures, figures, line_room, row_of, status_of, styles_of, utf8_of,
     window_of,
 };
-use crate::listing::{Listing, list};
+use crate::listing_run::ListingRun;
 use crate::marks::Run;
 use crate::name::name_of;
 use crate::options::are_within;
@@ -39,7 +38,6 @@ use arrayvec::ArrayVec;
 use std::alloc::{AllocError, Global};
 use zk_fast::places::{Cover, Unnoted};
 use zk_mem::header::Header;
-use zk_mem::memory::{Memory, ScreenSetup, Setup};
 use zk_mem::story::{OpenError, Story};
 use zk_snapshot::opening::{SnapshotError, open_snapshot};
 use zk_snapshot::snapshot::{has_snapshot, longest_snapshot, snapshot};
@@ -105,42 +103,11 @@ pub struct Play {
     // what a host asks for beside the play: the name in the status line, and a listing
     name: Collected,
     listing: Text,
+    // a listing of which lines are still to be written
+    run: Option<Box<ListingRun>>,
     stopped: Option<Stop>,
     // which instructions were carried out, where that is noted
     cover: Option<Cover>,
-}
-
-/// So many states to go back to the header's fields speak of where a story is listed: what `zkit info` has.
-const UNDO_STATES: u8 = 16;
-
-/// The memory of a story's file at its start.
-fn file_of(alloc: Global, memory: &Memory) -> Result<Memory, AllocError>
-    ensures { IfOk result (λ m. m ≡ fresh memory.now.file (plain_setup 16)) }
-{
-    let Ok(story) = Story::open(alloc, memory.original()) else {
-        return Err(AllocError);
-    };
-    let setup = Setup {
-        undo_states: UNDO_STATES,
-        screen: ScreenSetup::plain(),
-    };
-    match Memory::start(alloc, story, setup) {
-        Ok(memory) => Ok(memory),
-        Err(_) => Err(AllocError),
-    }
-}
-
-/// A listing of the file of a story that is played, of so many bytes at most.
-fn list_file(alloc: Global, memory: &Memory, listing: Listing, most: usize) -> Result<Text, Refusal>
-    ensures whole { IfOk result
-        (λ text. IsListing listing (fresh memory.now.file (plain_setup 16)) text.bytes) }
-    ensures bounded { IfOk result (λ text. length text.bytes ≤ most) }
-    ensures refused { IfErr result (λ r. IsUnlisted listing (fresh memory.now.file (plain_setup 16)) most r) }
-{
-    match file_of(alloc, memory) {
-        Ok(memory) => list(alloc, &memory, listing, most),
-        Err(AllocError) => Err(Refusal::Memory),
-    }
 }
 
 /// Runs a machine as its own `run_for`, and notes the instructions where that is wanted.
@@ -162,13 +129,24 @@ fn run_noting(
     }
 }
 
+/// Gives the upper window back that a restore has closed: past version 3 a story may think that it is still there (see
+/// `split_window`, section 15). In version 3 it asks for it again.
+fn keep_height(machine: &mut PausingMachine, height: u8)
+    ensures { machine.new ≡ with_height_kept height machine.old }
+{
+    let now = machine.machine();
+    if now.memory().version() > 3 && now.windows().height() < height {
+        machine.split(height as u16);
+    }
+}
+
 impl Play {
     ghost use Rattle.zk_host.specs.Calls.{begun_play, play_of, IsOpenedFrom, IsPlayOpened, IsSnapshot};
     ghost use Rattle.zk_host.specs.Calls.{longest_snapshot, awaited, pause_of, HasRun, IsGivenUnless, IsGoneBack};
-    ghost use Rattle.zk_host.specs.Calls.{IsImage, IsListedBy, IsListedNow, IsStatus, IsTurned, line_refused};
+    ghost use Rattle.zk_host.specs.Calls.{IsImage, IsStatus, IsTurned, line_refused};
     ghost use Rattle.zk_host.specs.Calls.{character_refused};
     ghost use Rattle.zk_host.specs.Calls.{read_refused, save_refused, restore_refused, character_read};
-    ghost use Rattle.zk_host.specs.Calls.{done_unless, split_refused, with_none_listed};
+    ghost use Rattle.zk_host.specs.Calls.{IsRestoredUnless, done_unless, split_refused};
     ghost use Rattle.std.specs.Prelude.{Option, Some, None, false, option_copied, ◌∷◌, []};
 
     /// A play of a story's machine, with no text.
@@ -182,6 +160,7 @@ impl Play {
             text: Collected::new(alloc),
             name: Collected::new(alloc),
             listing: Text::new(alloc),
+            run: None,
             stopped: None,
             cover: None,
         };
@@ -451,15 +430,17 @@ impl Play {
         Ok(())
     }
 
-    /// Answers by a saved game, or by none.
+    /// Answers by a saved game, or by none. Past version 3 the upper window keeps its height.
     pub fn restore(&mut self, file: Option<&[u8]>) -> Result<(), Refusal>
-        ensures { IsGivenUnless (restore_refused (awaited self.old)) self.old.machine self.old self.new result
+        ensures { IsRestoredUnless (restore_refused (awaited self.old)) self.old self.new result
             (File (option_copied file.entry)) }
     {
         let Some(Event::Restore) = self.machine.machine().waiting() else {
             return Err(Refusal::NotAwaited);
         };
+        let height = self.machine.machine().windows().height();
         self.machine.answer_restore(file);
+        keep_height(&mut self.machine, height);
         Ok(())
     }
 
@@ -571,59 +552,6 @@ impl Play {
         ensures { result ≡ header_of self.now.machine.state.game.memory.file }
     {
         self.machine.machine().memory().header()
-    }
-
-    /// Drops what is left of a listing.
-    pub fn drop_listing(&mut self, alloc: Global)
-        ensures { self.new ≡ with_none_listed self.old }
-    {
-        self.listing = Text::new(alloc);
-    }
-
-    /// Lists the story's file in at most so many bytes, in place of an earlier listing. Where it is refused there is
-    /// none.
-    pub fn list(&mut self, alloc: Global, listing: Listing, most: usize) -> Result<(), Refusal>
-        ensures { IsListedBy listing most self.old self.new result }
-    {
-        self.drop_listing(alloc);
-        match list_file(alloc, self.machine.machine().memory(), listing, most) {
-            Ok(text) => {
-                self.listing = text;
-                Ok(())
-            }
-            Err(refusal) => Err(refusal),
-        }
-    }
-
-    /// Lists the instruction at a byte address of memory as it stands, as a disassembly does, in at most so many bytes,
-    /// in place of an earlier listing. Where it is refused there is none.
-    pub fn list_instruction(
-        &mut self,
-        alloc: Global,
-        address: u32,
-        most: usize,
-    ) -> Result<(), Refusal>
-        ensures { IsListedNow (listing.Instruction address) most self.old self.new result }
-    {
-        let memory = self.machine.machine().memory();
-        match list(alloc, memory, Listing::Instruction(address), most) {
-            Ok(text) => {
-                self.listing = text;
-                Ok(())
-            }
-            Err(refusal) => {
-                self.listing = Text::new(alloc);
-                Err(refusal)
-            }
-        }
-    }
-
-    /// Takes text of the listing from the front into a buffer, and says how many bytes.
-    pub fn take_listing(&mut self, buffer: &mut [u8]) -> usize
-        ensures text { IsTaken self.old.listing self.new.listing buffer.old buffer.new result }
-        ensures beside { self.new ≡ record self.old { listing = self.new.listing } }
-    {
-        self.listing.take(buffer)
     }
 
     /// Whether an instruction has shown too much text.

@@ -1,5 +1,5 @@
 -- The last object that facts tell.
-use Rattle.std.specs.Prelude.{◌≡◌, ℕ, List, [], ◌∷◌, ◌++◌}
+use Rattle.std.specs.Prelude.{◌≡◌, ℕ, true, false, List, [], ◌∷◌, ◌++◌}
 use Rattle.std.proofs.Common.{ap, ◌∙◌}
 use Rattle.zk_inspect.specs.declared.fact.Fact.{Fact}
 use Rattle.zk_inspect.specs.declared.fact.Fact.TheVariants as fact
@@ -19,3 +19,6 @@ pub last_of_two : (a b c : ℕ) (fs gs : List Fact) → b ≡ last_object a fs �
     → c ≡ last_object a (fs ++ gs)
 last_of_two a b c [] gs h k = k ∙ ap (λ (x : ℕ). last_object x gs) h
 last_of_two a b c (f ∷ fs) gs h k = last_of_two (object_or f a) b c fs gs h k
+
+pub never_late : (a : ℕ) (fs : List Fact) → false ≡ true → a ≡ last_object a fs
+never_late a fs no = absurd cc

@@ -55,8 +55,6 @@ impl LineWriter for Bytes {
         }
     }
 
-    fn look_at(&mut self, _memory: &Memory, _address: u32) {}
-
     fn has_ended(&self) -> bool {
         self.is_short
     }

@@ -27,10 +27,16 @@ struct Last {
 }
 
 impl FactWriter for Last {
-    ghost use Rattle.std.specs.Prelude.{◌≡◌, refl};
-    ghost use Rattle.zk_inform.specs.Last.{last_object, last_of_two};
+    ghost use Rattle.std.specs.Prelude.{◌≡◌, false, refl};
+    ghost use Rattle.zk_inform.specs.Last.{last_object, last_of_two, never_late};
 
     ghost wrote = { λ a b fs. b.object ≡ last_object a.object fs };
+
+    ghost ended = { λ a. false };
+
+    fn has_ended(&self) -> bool {
+        false
+    }
 
     fn write(&mut self, fact: Fact) {
         self.object = object_or(fact, self.object);
@@ -39,6 +45,8 @@ impl FactWriter for Last {
     ghost nothing = { λ a. refl };
 
     ghost twice = { λ a b c fs gs h k. last_of_two a.object b.object c.object fs gs h k };
+
+    ghost late = { λ a fs is. never_late a.object fs is };
 }
 
 /// How many objects are listed of a story, from 1 on. Refused for lack of memory alone.

@@ -1,8 +1,9 @@
 -- Property lists, from the last one on.
 use Rattle.std.proofs.Common.{◌≡◌, ◌∙◌, ℕ, ◌+◌, ◌<◌, ◌≤◌, ⊎_elim, Bool, true, false, List, [], ◌∷◌, get_or, Option}
 use Rattle.std.proofs.Common.{Some, None, Result, Ok, Err, refl, sym, ap, subst, arith}
-use Rattle.std.specs.Prelude.{◌↔◌, not}
+use Rattle.std.specs.Prelude.{◌↔◌, not, IsOk}
 use Rattle.zk_mem.specs.declared.fault.Fault.{Fault}
+use Rattle.zk_mem.specs.declared.fault.Fault.TheVariants.{BadProperty}
 use Rattle.zk_mem.specs.Map.{MemoryMap, HasBytes, byte_at, readable_end}
 use Rattle.zk_tables.specs.declared.lists.Property.{Property}
 use Rattle.zk_tables.specs.Properties.{list_of, properties_of}
@@ -88,3 +89,15 @@ bad_list m o a marks bytes h e = rw e (bad_by m a (get_or marks a false) bytes (
 pub no_list : (m : MemoryMap) (o : ℕ) (f : Fault) → list_of m o ≡ Err f → properties_of m o ≡ Err f
 unfolding properties_of
 no_list m o f e = rw e refl
+
+pub has_marked : (m : MemoryMap) (a : ℕ) (marks : List Bool) → HasBytes m → AreListMarks m marks
+    → get_or marks a false ≡ true → IsOk (properties_at m a)
+has_marked m a marks bytes h is =
+    let l = (h.exact a).0 is in rw (((lists_are_read m a bytes).list l.0).1 l.1) refl
+
+pub lacks_unmarked : (m : MemoryMap) (a : ℕ) (marks : List Bool) → HasBytes m → AreListMarks m marks
+    → get_or marks a false ≡ false → properties_at m a ≡ Err BadProperty
+lacks_unmarked m a marks bytes h is = ⊎_elim
+    (λ l. absurd (let yes = (h.exact a).1 l in cc))
+    (λ l. (lists_are_read m a bytes).leaves.1 l)
+    (lists_are_read m a bytes).one

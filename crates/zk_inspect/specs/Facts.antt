@@ -70,3 +70,8 @@ collected_then {A} false true true a b c s t h k = tt
 collected_then {A} false true false a b c s t h k = let no = k in absurd cc
 collected_then {A} true true z a b c s t h k = k
 collected_then {A} true false z a b c s t h k = let no = h in absurd cc
+
+pub collected_late : {A : Type 0} (short : Bool) (list : List A) (items : List A) → short ≡ true
+    → Collected short short list list items
+collected_late {A} true list items is = refl
+collected_late {A} false list items is = absurd cc

@@ -32,6 +32,7 @@ pub mod DictionaryLines
 pub mod TreeLines
 pub mod FindingLines
 pub mod Lines
+pub mod LineTexts
 pub mod SectionFacts
 pub mod CodeFacts
 pub mod FindingLaws

@@ -1,6 +1,6 @@
 // What is listed of a story, fact by fact.
 
-ghost use Rattle.std.specs.Prelude.{◌≡◌, [], false, IfOk};
+ghost use Rattle.std.specs.Prelude.{◌≡◌, [], false, length, nat_le, IfOk};
 ghost use Rattle.zk_inspect.specs.Facts.{field_name, part_name};
 
 use crate::check::finding::Finding;
@@ -169,36 +169,62 @@ pub trait FactWriter {
     // what came of a writer that was given facts
     ghost wrote: { Self → Self → List Fact → Type 0 };
 
+    // that nothing more is taken
+    ghost ended: { Self → Bool };
+
     /// Takes a fact.
     fn write(&mut self, fact: Fact)
         ensures { wrote self.old self.new (fact ∷ []) };
+
+    /// Whether nothing more is taken: then no fact need be looked for.
+    fn has_ended(&self) -> bool
+        ensures { result ≡ ended self.now };
 
     ghost nothing: { (a : Self) → wrote a a [] };
 
     ghost twice: { (a b c : Self) (fs gs : List Fact) → wrote a b fs → wrote b c gs
         → wrote a c (fs ++ gs) };
+
+    ghost late: { (a : Self) (fs : List Fact) → ended a ≡ true → wrote a a fs };
 }
 
-/// Facts in a list. It remembers whether memory was short.
+/// Facts in a list, so many at most. It remembers whether there were more, or memory was short.
 #[derive(Drop)]
 pub struct FactList {
     list: Vec<Fact>,
+    most: usize,
     is_short: bool,
 }
 
 impl FactList {
-    /// No facts.
+    /// No facts, for as many as there is memory for.
     pub fn new(alloc: Global) -> FactList
+        ensures list { result.list.items ≡ [] }
+        ensures short { result.is_short ≡ false }
+    {
+        FactList::within(alloc, usize::MAX)
+    }
+
+    /// No facts, for so many at most.
+    pub fn within(alloc: Global, most: usize) -> FactList
         ensures list { result.list.items ≡ [] }
         ensures short { result.is_short ≡ false }
     {
         FactList {
             list: Vec::new(alloc),
+            most,
             is_short: false,
         }
     }
 
-    /// The facts, if memory was never short.
+    /// Whether there is no room for one more.
+    pub fn is_full(&self) -> bool
+        ensures { result ≡ nat_le self.now.most (length self.now.list.items) }
+    {
+        self.most <= self.list.len()
+    }
+
+    /// The facts, if there was room and memory for all of them.
     pub fn finish(self) -> Result<Vec<Fact>, AllocError>
         ensures { IfOk result (λ list. (self.is_short ≡ false) × (list ≡ self.list)) }
     {
@@ -211,12 +237,19 @@ impl FactList {
 }
 
 impl FactWriter for FactList {
-    ghost use Rattle.zk_inspect.specs.Facts.{Collected, collected_none, collected_then};
+    ghost use Rattle.zk_inspect.specs.Facts.{Collected, collected_late, collected_none, collected_then};
 
     ghost wrote = { λ a b fs. Collected a.is_short b.is_short a.list.items b.list.items fs };
 
+    ghost ended = { λ a. a.is_short };
+
+    fn has_ended(&self) -> bool {
+        self.is_short
+    }
+
     fn write(&mut self, fact: Fact) {
-        if self.is_short {
+        if self.is_short || self.is_full() {
+            self.is_short = true;
             return;
         }
         match self.list.push(fact) {
@@ -228,4 +261,6 @@ impl FactWriter for FactList {
     ghost nothing = { λ a. collected_none a.is_short a.list.items };
 
     ghost twice = { λ a b c fs gs h k. collected_then _ _ _ _ _ _ fs gs h k };
+
+    ghost late = { λ a fs is. collected_late a.is_short a.list.items fs is };
 }

@@ -5,6 +5,7 @@ pub mod check;
 pub mod examples;
 pub mod fact;
 pub mod laws;
+pub mod line_text;
 pub mod listing;
 pub mod objects;
 pub mod plain_text;

@@ -84,7 +84,7 @@ pub fn list_section<F: FactWriter>(
         Section::Tree => return list_tree(alloc, memory, facts),
         Section::Ifid => facts.write(Fact::Ifid),
         Section::Strings => return list_texts(alloc, memory, facts),
-        Section::Properties => list_properties(memory, facts),
+        Section::Properties => return list_properties(alloc, memory, facts),
         Section::Globals => list_globals(memory, facts),
         Section::Alphabets => list_alphabets(facts),
         Section::Extension => list_extension(memory, facts),

@@ -109,6 +109,12 @@ impl<'a, P: LineWriter> FactWriter for PlainText<'a, P> {
         × (b.writer.ghost_name ≡ a.writer.ghost_name)
         × P.wrote a.writer.now b.writer.now (lines_of a.notes a.memory.now fs) };
 
+    ghost ended = { λ a. P.ended a.writer.now };
+
+    fn has_ended(&self) -> bool {
+        self.writer.has_ended()
+    }
+
     fn write(&mut self, fact: Fact) {
         write_fact(self.writer, self.memory, self.notes, fact);
         self.writer.write(b"\n");
@@ -126,5 +132,12 @@ impl<'a, P: LineWriter> FactWriter for PlainText<'a, P> {
       k.1 ∙ h.1,
       k.2 ∙ h.2,
       lines_then P.wrote P.twice a.writer.now b.writer.now c.writer.now _ _ _ _ fs gs h.1 h.0 h.3 k.3,
+    ) };
+
+    ghost late = { λ a fs is. (
+      refl,
+      refl,
+      refl,
+      P.late a.writer.now (lines_of a.notes a.memory.now fs) is,
     ) };
 }

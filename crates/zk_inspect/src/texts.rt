@@ -43,13 +43,14 @@ fn packed_text(memory: &Memory, instr: &Instr) -> Option<u32>
 }
 
 /// Marks an address where a text stands.
-fn mark_text(marks: &mut AddressSet, memory: &Memory, address: u32)
-    requires { length marks.old ≡ length memory.now.bytes }
+fn mark_text(marks: &mut AddressSet, memory: &Memory, ends: &TextEnds, address: u32)
+    requires ends { KnowsEnds memory.now ends.now }
+    requires size { length marks.old ≡ length memory.now.bytes }
     ensures size { length marks.new ≡ length marks.old }
     ensures exact { (t : ℕ) → IsMarked marks.new t
         ↔ (IsMarked marks.old t ⊎ ((t ≡ address) × IsText memory.now t)) }
 {
-    if let Some(_end) = memory.text_end(address) {
+    if let Some(_end) = ends.text_end(memory, address) {
         marks.mark(address);
     }
 }
@@ -66,7 +67,7 @@ fn mark_printed(marks: &mut AddressSet, memory: &Memory, ends: &TextEnds, addres
         return;
     };
     if let Some(text) = packed_text(memory, &instr) {
-        mark_text(marks, memory, text);
+        mark_text(marks, memory, ends, text);
     }
 }
 
@@ -110,34 +111,36 @@ fn mark_after_last(marks: &mut AddressSet, memory: &Memory, ends: &TextEnds, rou
         ↔ (IsMarked marks.old t ⊎ (IsAfterLast memory.now routines.now t × IsText memory.now t)) }
 {
     if let Some(address) = after_last(memory, ends, routines) {
-        mark_text(marks, memory, address);
+        mark_text(marks, memory, ends, address);
     }
 }
 
 /// Marks the text that stands at the least packed address at or after the end of the one at an address.
-fn mark_next_text(marks: &mut AddressSet, memory: &Memory, address: u32)
-    requires { length marks.old ≡ length memory.now.bytes }
+fn mark_next_text(marks: &mut AddressSet, memory: &Memory, ends: &TextEnds, address: u32)
+    requires ends { KnowsEnds memory.now ends.now }
+    requires size { length marks.old ≡ length memory.now.bytes }
     ensures size { length marks.new ≡ length marks.old }
     ensures exact { (t : ℕ) → IsMarked marks.new t
         ↔ (IsMarked marks.old t ⊎ IsNextText memory.now address t) }
 {
     // a text ends in the story
     memory.len();
-    if let Some(end) = memory.text_end(address) {
-        mark_text(marks, memory, next_packed(memory, end));
+    if let Some(end) = ends.text_end(memory, address) {
+        mark_text(marks, memory, ends, next_packed(memory, end));
     }
 }
 
 /// Marks, with each text that is marked, the one after it.
-fn mark_all_next_texts(marks: &mut AddressSet, memory: &Memory)
-    requires { length marks.old ≡ length memory.now.bytes }
+fn mark_all_next_texts(marks: &mut AddressSet, memory: &Memory, ends: &TextEnds)
+    requires ends { KnowsEnds memory.now ends.now }
+    requires size { length marks.old ≡ length memory.now.bytes }
     ensures size { length marks.new ≡ length marks.old }
     ensures exact { (t : ℕ) → IsMarked marks.new t
         ↔ IsAmong (IsMarked marks.old) (IsNextText memory.now) t }
 {
     for address in 0..memory.len() {
         if marks.has(address) {
-            mark_next_text(marks, memory, address);
+            mark_next_text(marks, memory, ends, address);
         }
     }
 }
@@ -155,7 +158,7 @@ pub fn find_texts(alloc: Global, memory: &Memory, code: &Code) -> Result<Address
     let mut marks = unmarked(alloc, memory.len())?;
     mark_all_printed(&mut marks, memory, &ends, code.addresses.as_slice());
     mark_after_last(&mut marks, memory, &ends, code.routines.as_slice());
-    mark_all_next_texts(&mut marks, memory);
+    mark_all_next_texts(&mut marks, memory, &ends);
     marks.list(alloc)
 }
 

@@ -61,8 +61,6 @@ impl LineWriter for Lines {
         }
     }
 
-    fn look_at(&mut self, _memory: &Memory, _address: u32) {}
-
     fn has_ended(&self) -> bool {
         self.is_short
     }

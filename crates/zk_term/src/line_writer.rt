@@ -5,8 +5,6 @@ ghost use Rattle.zk_term.specs.LineWriters.{Given, Sheet, Wrote, sheet};
 
 use crate::target::{Failed, Target, write_all};
 use arrayvec::ArrayVec;
-use zk_mem::memory::Memory;
-use zk_text::walked::words_walked;
 
 /// Takes the bytes of lines.
 pub trait LineWriter {
@@ -21,11 +19,6 @@ pub trait LineWriter {
     /// Writes bytes, if no write has failed before.
     fn write(&mut self, bytes: &[u8])
         ensures { wrote self.old self.new bytes.now };
-
-    /// Takes note that the text at a byte address is looked at, if no write has failed before. Where it has more words,
-    /// with those of the abbreviations that it uses, than may still be looked at, that is as a write that fails.
-    fn look_at(&mut self, memory: &Memory, address: u32)
-        ensures { wrote self.old self.new [] };
 
     /// Whether a write has failed: then nothing more is taken, and no text need be made for it.
     fn has_ended(&self) -> bool
@@ -97,22 +90,6 @@ impl<'a, T: Target> LineWriter for TargetWriter<'a, T> {
 
     fn has_ended(&self) -> bool {
         self.failed
-    }
-
-    fn look_at(&mut self, memory: &Memory, address: u32) {
-        if self.failed {
-            return;
-        }
-        let Some(left) = self.target.words_left() else {
-            return;
-        };
-        match self
-            .target
-            .spend(words_walked(memory, address, left.saturating_add(1)))
-        {
-            Ok(()) => {}
-            Err(Failed) => self.failed = true,
-        }
     }
 
     fn write(&mut self, bytes: &[u8]) {

@@ -42,21 +42,6 @@ pub trait Target {
         ensures fails { OnErr result (fails self.old self.new) }
         ensures whole { OnOk result (whole self.new) };
 
-    /// How many words of texts may still be looked at, where that is bounded.
-    fn words_left(&self) -> Option<u32> {
-        None
-    }
-
-    /// Takes note that so many words of texts are looked at. Where they are more than are left, that is as a write that
-    /// fails.
-    fn spend(&mut self, _words: u32) -> Result<(), Failed>
-        ensures bytes { Keeps (taken self.old) (taken self.new) }
-        ensures failed { failed self.new ≡ (is_err result || failed self.old) }
-        ensures fails { OnErr result (fails self.old self.new) }
-    {
-        Ok(())
-    }
-
     /// Whether it shows styles.
     fn shows_styles(&self) -> bool {
         false

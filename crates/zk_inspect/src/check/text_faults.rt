@@ -14,7 +14,6 @@ use std::alloc::{AllocError, Global};
 use zk_mem::fault::Fault;
 use zk_mem::memory::Memory;
 use zk_text::sweep::Sweep;
-use zk_text::text::check_abbreviation;
 
 /// A kind of fault of a text.
 #[derive(Clone, Copy)]
@@ -45,13 +44,14 @@ fn text_has(memory: &Memory, sweep: &Sweep, kind: TextFault, address: u32) -> bo
     }
 }
 
-/// Whether the text of an abbreviation at an address has a fault of a kind.
-fn abbreviation_has(memory: &Memory, kind: TextFault, address: u32) -> bool
+/// Whether the text of an abbreviation at the address that a sweep has come to has a fault of a kind.
+fn abbreviation_has(memory: &Memory, sweep: &Sweep, kind: TextFault, address: u32) -> bool
+    requires { IsSweptTo memory.now address sweep.now }
     ensures { result ≡ has_kind kind (meaning_at no_abbreviation memory.now address) }
 {
-    match check_abbreviation(memory, address) {
-        Ok(()) => false,
-        Err(fault) => is_of(kind, fault),
+    match sweep.abbreviation_fault(memory, address) {
+        Some(fault) => is_of(kind, fault),
+        None => false,
     }
 }
 
@@ -70,7 +70,7 @@ fn text_fails(
     ensures { result ≡ text_fails memory.now marks.now kind address }
 {
     (marks.printed.has(address) && text_has(memory, sweep, kind, address))
-        || (marks.abbreviations.is_marked(address) && abbreviation_has(memory, kind, address))
+        || (marks.abbreviations.is_marked(address) && abbreviation_has(memory, sweep, kind, address))
         || (is_of(kind, Fault::TextPastEnd) && marks.unread.is_marked(address))
 }
 

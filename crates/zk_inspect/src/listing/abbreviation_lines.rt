@@ -15,8 +15,9 @@ use zk_term::line_writer::LineWriter;
 use zk_term::writing::write_decimal;
 use zk_text::text::check_abbreviation;
 
-/// Writes what the text of an abbreviation prints, or why it prints nothing, once note was taken of it.
-fn write_checked<P: LineWriter>(writer: &mut P, memory: &Memory, address: u32)
+/// Writes what the text of an abbreviation prints, or why it prints nothing. Once a write has failed no text is looked
+/// at.
+fn write_text<P: LineWriter>(writer: &mut P, memory: &Memory, address: u32)
     ensures { P.wrote writer.old writer.new
         (units_text memory.now (meaning_at no_abbreviation memory.now address)) }
 {
@@ -27,16 +28,6 @@ fn write_checked<P: LineWriter>(writer: &mut P, memory: &Memory, address: u32)
         Ok(()) => write_meaning(writer, memory, address),
         Err(fault) => write_fault(writer, fault),
     }
-}
-
-/// Writes what the text of an abbreviation prints, or why it prints nothing. Once a write has failed no text is looked
-/// at.
-fn write_text<P: LineWriter>(writer: &mut P, memory: &Memory, address: u32)
-    ensures { P.wrote writer.old writer.new
-        (units_text memory.now (meaning_at no_abbreviation memory.now address)) }
-{
-    writer.look_at(memory, address);
-    write_checked(writer, memory, address);
 }
 
 /// The byte address of the text that an abbreviation stands for, by its number, or why it stands for nothing:

@@ -1,22 +1,26 @@
 // The lines of properties with their data.
 
-ghost use Rattle.std.specs.Prelude.{◌≡◌, ◌≤◌, ◌<◌, ◌+◌, ◌++◌, map, IsOk};
+ghost use Rattle.std.specs.Prelude.{◌≡◌, ◌≤◌, ◌<◌, ◌+◌, ◌++◌, is_err, map, IsOk};
 ghost use Rattle.std.specs.List.{flat_map, range_with_len};
 ghost use Rattle.zk_tables.specs.Properties.{properties_of};
 ghost use Rattle.zk_tables.specs.PropertyList.{properties_at, properties_from};
 ghost use Rattle.zk_inspect.specs.ObjectLines.{properties_or_none};
-ghost use Rattle.zk_inspect.specs.Facts.{GaveSome};
+ghost use Rattle.zk_inspect.specs.Facts.{AreNone, GaveBy};
+ghost use Rattle.zk_inspect.specs.ListMarks.{AreListMarks};
 ghost use Rattle.zk_inspect.specs.PropertyBytes.{ArePropertyFacts, byte_text, no_properties_line, object_properties};
 ghost use Rattle.zk_inspect.specs.PropertyBytes.{properties_by, property_line};
 
+use crate::check::property_lists::mark_lists;
 use crate::fact::{Fact, FactWriter};
 use crate::listing::reading::byte_after;
 use crate::listing::writing::write_fault;
 use crate::objects::count_objects;
+use crate::reach::address_set::AddressSet;
+use std::alloc::{AllocError, Global};
 use zk_mem::fault::Fault;
 use zk_mem::memory::Memory;
 use zk_tables::lists::{Property, read_property};
-use zk_tables::properties::{check_properties, list_address};
+use zk_tables::properties::list_address;
 use zk_term::line_writer::LineWriter;
 use zk_term::writing::{hex_digits_of, write_address, write_decimal};
 
@@ -101,33 +105,59 @@ fn list_properties_at<F: FactWriter>(memory: &Memory, facts: &mut F, object: u16
     list_properties_from(memory, facts, object, address, memory.data_end());
 }
 
-/// Gives the properties of an object, or why its property list is none.
-fn list_object_properties<F: FactWriter>(memory: &Memory, facts: &mut F, object: u16)
+/// Gives the properties of an object, or why its property list is none, by where such lists begin. Once nothing more is
+/// taken no list is looked at.
+fn list_object_properties<F: FactWriter>(
+    memory: &Memory,
+    lists: &AddressSet,
+    facts: &mut F,
+    object: u16,
+)
+    requires { AreListMarks memory.now lists.now }
     ensures { F.wrote facts.old facts.new (object_properties memory.now object) }
 {
+    memory.has_bytes();
+    if facts.has_ended() {
+        return;
+    }
     match list_address(memory, object) {
-        Ok(address) => match check_properties(memory, object) {
-            Ok(()) => list_properties_at(memory, facts, object, address),
-            Err(fault) => facts.write(Fact::NoProperties(object, fault)),
-        },
+        Ok(address) => {
+            if lists.is_marked(address) {
+                list_properties_at(memory, facts, object, address);
+            } else {
+                facts.write(Fact::NoProperties(object, Fault::BadProperty));
+            }
+        }
         Err(fault) => facts.write(Fact::NoProperties(object, fault)),
     }
 }
 
 /// Gives the properties of so many objects, from 1 on.
-fn list_first_properties<F: FactWriter>(memory: &Memory, facts: &mut F, count: u16)
+fn list_first_properties<F: FactWriter>(
+    memory: &Memory,
+    lists: &AddressSet,
+    facts: &mut F,
+    count: u16,
+)
+    requires { AreListMarks memory.now lists.now }
     ensures { F.wrote facts.old facts.new
         (flat_map (object_properties memory.now) (range_with_len 1 count)) }
 {
     for before in 0..count {
-        list_object_properties(memory, facts, before + 1);
+        list_object_properties(memory, lists, facts, before + 1);
     }
 }
 
-/// Gives the properties of the objects.
-pub(crate) fn list_properties<F: FactWriter>(memory: &Memory, facts: &mut F)
-    ensures { GaveSome (ArePropertyFacts memory.now) F.wrote facts.old facts.new }
+/// Gives the properties of the objects. It gives nothing where it is refused, for lack of memory.
+pub(crate) fn list_properties<F: FactWriter>(
+    alloc: Global,
+    memory: &Memory,
+    facts: &mut F,
+) -> Result<(), AllocError>
+    ensures { GaveBy (is_err result) (ArePropertyFacts memory.now) AreNone F.wrote facts.old facts.new }
 {
     let count = count_objects(memory);
-    list_first_properties(memory, facts, count);
+    let lists = mark_lists(alloc, memory)?;
+    list_first_properties(memory, &lists, facts, count);
+    Ok(())
 }

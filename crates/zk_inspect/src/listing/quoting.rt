@@ -162,8 +162,8 @@ pub(crate) fn write_meaning<P: LineWriter>(writer: &mut P, memory: &Memory, addr
     writer.write(b"\"");
 }
 
-/// Writes what a text prints between quotes, or why it has no meaning, once note was taken of it.
-fn write_checked<P: LineWriter>(writer: &mut P, memory: &Memory, address: u32)
+/// Writes what a text prints between quotes, or why it has no meaning. Once a write has failed no text is looked at.
+pub(crate) fn write_quoted<P: LineWriter>(writer: &mut P, memory: &Memory, address: u32)
     ensures { P.wrote writer.old writer.new (units_text memory.now (text_units memory.now address)) }
 {
     if writer.has_ended() {
@@ -173,12 +173,4 @@ fn write_checked<P: LineWriter>(writer: &mut P, memory: &Memory, address: u32)
         Ok(_) => write_meaning(writer, memory, address),
         Err(fault) => write_decimal(writer, b"! F", fault.number() as u32),
     }
-}
-
-/// Writes what a text prints between quotes, or why it has no meaning. Once a write has failed no text is looked at.
-pub(crate) fn write_quoted<P: LineWriter>(writer: &mut P, memory: &Memory, address: u32)
-    ensures { P.wrote writer.old writer.new (units_text memory.now (text_units memory.now address)) }
-{
-    writer.look_at(memory, address);
-    write_checked(writer, memory, address);
 }

@@ -148,8 +148,8 @@ fn write_short_meaning<P: LineWriter>(writer: &mut P, memory: &Memory, address: 
     write_shortened(writer, beginning.as_slice());
 }
 
-/// Writes what a text prints, shortened, or why it has no meaning, once note was taken of it.
-fn write_checked<P: LineWriter>(writer: &mut P, memory: &Memory, address: u32)
+/// Writes what a text prints, shortened, or why it has no meaning. Once a write has failed no text is looked at.
+pub(crate) fn write_short<P: LineWriter>(writer: &mut P, memory: &Memory, address: u32)
     ensures { P.wrote writer.old writer.new (short_text memory.now (text_units memory.now address)) }
 {
     if writer.has_ended() {
@@ -159,12 +159,4 @@ fn write_checked<P: LineWriter>(writer: &mut P, memory: &Memory, address: u32)
         Ok(_) => write_short_meaning(writer, memory, address),
         Err(fault) => write_fault(writer, fault),
     }
-}
-
-/// Writes what a text prints, shortened, or why it has no meaning. Once a write has failed no text is looked at.
-pub(crate) fn write_short<P: LineWriter>(writer: &mut P, memory: &Memory, address: u32)
-    ensures { P.wrote writer.old writer.new (short_text memory.now (text_units memory.now address)) }
-{
-    writer.look_at(memory, address);
-    write_checked(writer, memory, address);
 }

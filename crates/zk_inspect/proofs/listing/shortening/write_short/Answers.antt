@@ -2,7 +2,7 @@ use Rattle.std.proofs.Common.{sym}
 use Rattle.zk_text.specs.Meaning.{text_units}
 use Rattle.zk_inspect.proofs.Quotes.{checked_fault}
 use Rattle.zk_inspect.proofs.Shortening.{short_fault}
-use Rattle.zk_inspect.proofs.listing.shortening.write_checked.Goals as goal
+use Rattle.zk_inspect.proofs.listing.shortening.write_short.Goals as goal
 
 pub returns-in-Err : goal.returns-in-Err
 returns-in-Err g c =

@@ -1,5 +1,5 @@
 use Rattle.zk_inspect.proofs.Plain.{plain_text, faulty_text}
-use Rattle.zk_inspect.proofs.listing.abbreviation_lines.write_checked.Goals as goal
+use Rattle.zk_inspect.proofs.listing.abbreviation_lines.write_text.Goals as goal
 
 pub write_meaning-requires : goal.write_meaning-requires
 write_meaning-requires g c =

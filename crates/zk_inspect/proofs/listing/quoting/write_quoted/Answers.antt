@@ -1,7 +1,7 @@
 use Rattle.std.proofs.Common.{sym}
 use Rattle.zk_text.specs.Meaning.{text_units}
 use Rattle.zk_inspect.proofs.Quotes.{checked_fault, fault_text}
-use Rattle.zk_inspect.proofs.listing.quoting.write_checked.Goals as goal
+use Rattle.zk_inspect.proofs.listing.quoting.write_quoted.Goals as goal
 
 pub returns-in-Err : goal.returns-in-Err
 returns-in-Err g c =
