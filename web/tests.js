@@ -1036,7 +1036,7 @@ function badArguments(module) {
     other.close();
 }
 
-/** The upper window is given back after a restore. */
+/** The upper window keeps its height after a restore, and a host gives it any. */
 function split(module) {
     const game = module.open(restoringWindow());
     game.turn();
@@ -1044,9 +1044,9 @@ function split(module) {
     game.saved(true);
     want(game.turn() === "restore" && game.window().height === 1, "split: a row before the restore");
     game.restore(file);
-    want(game.window().height === 0, "split: none after it");
-    want(game.split(1) && game.window().height === 1, "split: a row again");
+    want(game.window().height === 1, "split: a row after it");
     want(game.turn() === "character" && game.window().height === 1, "split: a row at the read");
+    want(game.split(2) && game.window().height === 2, "split: another row");
     want(game.split(-1) && game.window().height === 255, "split: no more than 255");
     game.close();
 }

@@ -655,19 +655,24 @@ static void use_keys(void) {
     type_keys(&options, ZKIT_KEY_UP, ZKIT_KEY_DOWN);
 }
 
+static void show_row(const char *name, size_t count, const uint8_t *row) {
+    printf("  %s: '%.*s'\n", name, (int)count, (const char *)row);
+}
+
 static uint32_t height_of(const zkit *game) {
     zkit_window window = {.size = sizeof window};
     zkit_window_of(game, &window);
     return window.height;
 }
 
-/* A story has no upper window after a restore: the host gives it back. */
-static void split_after_restore(void) {
-    /* split_window 1; save -> global 16; je global 16, 2 ?read; restore -> global 17; read: read_char 1 -> global 18;
-     * quit */
-    const uint8_t code[] = {0xea, 0x7f, 0x01, 0xbe, 0x00, 0xff, 0x10, 0x41, 0x10, 0x02, 0xc6,
-                            0xbe, 0x01, 0xff, 0x11, 0xf6, 0x7f, 0x01, 0x12, 0xba};
-    uint8_t file[SMALL];
+/* A restore leaves the upper window its height, with blank rows. */
+static void restore_window(void) {
+    /* split_window 2; set_window 1; print_char 'u'; set_window 0; save -> global 16; je global 16, 2 ?read;
+     * restore -> global 17; read: read_char 1 -> global 18; quit */
+    const uint8_t code[] = {0xea, 0x7f, 0x02, 0xeb, 0x7f, 0x01, 0xe5, 0x7f, 0x75, 0xeb, 0x7f, 0x00,
+                            0xbe, 0x00, 0xff, 0x10, 0x41, 0x10, 0x02, 0xc6, 0xbe, 0x01, 0xff, 0x11,
+                            0xf6, 0x7f, 0x01, 0x12, 0xba};
+    uint8_t file[SMALL], row[8];
     size_t length = 0;
     zkit *game = opened_code(code, sizeof code, NULL);
     puts("an upper window after a restore");
@@ -676,12 +681,44 @@ static void split_after_restore(void) {
     say("saved", zkit_saved(game, 1));
     say("turn", zkit_turn(game));
     say("height", height_of(game));
+    show_row("row", zkit_row(game, 1, row, sizeof row), row);
     say("restore", zkit_restore(game, file, length));
     say("height", height_of(game));
-    say("split", zkit_split(game, 1));
-    say("height", height_of(game));
+    show_row("row", zkit_row(game, 1, row, sizeof row), row);
     say("turn", zkit_turn(game));
     say("height at the read", height_of(game));
+    zkit_close(game);
+}
+
+/* In version 3 it takes the upper window away (section 8.6.1.3). */
+static void restore_window_of_3(void) {
+    /* split_window 3; save ?restore; restore: restore ?quit; quit: quit */
+    const uint8_t code[] = {0xea, 0x7f, 0x03, 0xb5, 0xc2, 0xb6, 0xc2, 0xba};
+    uint8_t story[SMALL], file[SMALL];
+    size_t length = 0;
+    make_story(story, code, sizeof code);
+    story[0] = 3;
+    zkit *game = opened(story, sizeof story, NULL);
+    puts("the same in version 3");
+    zkit_turn(game);
+    say("image", zkit_image(game, file, sizeof file, &length));
+    say("saved", zkit_saved(game, 1));
+    say("turn", zkit_turn(game));
+    say("height", height_of(game));
+    say("restore", zkit_restore(game, file, length));
+    say("height", height_of(game));
+    zkit_close(game);
+}
+
+/* A host gives the upper window rows. */
+static void split(void) {
+    /* read_char 1 -> global 16; quit */
+    const uint8_t code[] = {0xf6, 0x7f, 0x01, 0x10, 0xba};
+    zkit *game = opened_code(code, sizeof code, NULL);
+    puts("an upper window that a host splits");
+    say("turn", zkit_turn(game));
+    say("split", zkit_split(game, 1));
+    say("height", height_of(game));
     say("more rows than there may be", zkit_split(game, 65536 + 2));
     say("height", height_of(game));
     say("no row", zkit_split(game, 0));
@@ -721,7 +758,9 @@ static void use_options(void) {
     use_fonts_by_options();
     use_columns();
     use_keys();
-    split_after_restore();
+    restore_window();
+    restore_window_of_3();
+    split();
     split_in_a_text();
 }
 
@@ -821,10 +860,6 @@ static void fill_room(void) {
     say("turn", zkit_turn(game));
     say("text", zkit_text(game, buffer, sizeof buffer));
     zkit_close(game);
-}
-
-static void show_row(const char *name, size_t count, const uint8_t *row) {
-    printf("  %s: '%.*s'\n", name, (int)count, (const char *)row);
 }
 
 static void show_window(zkit *game) {

@@ -37,6 +37,10 @@ class Saves(unittest.TestCase):
         with Game(small("window.z5")) as game:
             self.assertEqual(game.reply.upper, ("",))
             self.assertEqual([game.send_key("a").upper for _ in range(3)], [("",)] * 3)
+        with Game(small("window.z3")) as game:
+            self.assertEqual(game.reply.upper, ("", "", ""))
+            game.send("")
+            self.assertEqual(game.send("").upper, ())
 
     def test_by_the_caller(self) -> None:
         with Game(example("lighthouse.z5"), saves=False) as game:
