@@ -617,9 +617,8 @@ static zkit *reading_keys(const zkit_options *options) {
     return opened(story, sizeof story, options);
 }
 
-/* Types a character, and a line that a key ends. */
-static void type_keys(const zkit_options *options, uint32_t character, uint32_t key) {
-    zkit *game = reading_keys(options);
+/* Types a character, and a line that a key ends, and closes the game. */
+static void type_keys_in(zkit *game, uint32_t character, uint32_t key) {
     say("a line is not awaited yet", zkit_line_ended(game, NULL, 0, key));
     zkit_turn(game);
     say("character", zkit_character(game, character));
@@ -631,6 +630,17 @@ static void type_keys(const zkit_options *options, uint32_t character, uint32_t 
     zkit_close(game);
 }
 
+static void type_keys(const zkit_options *options, uint32_t character, uint32_t key) {
+    type_keys_in(reading_keys(options), character, key);
+}
+
+static void type_keys_in_clone(const zkit_options *options) {
+    zkit *game = reading_keys(options);
+    zkit_turn(game);
+    type_keys_in(zkit_clone(game, NULL), ZKIT_KEY_UP, ZKIT_KEY_DOWN);
+    zkit_close(game);
+}
+
 /* Keys that are not characters are read as themselves where the option is not 0, and as question marks else. */
 static void use_keys(void) {
     zkit_options options = defaults();
@@ -639,6 +649,8 @@ static void use_keys(void) {
     options.keys = 1;
     puts("the same with the option");
     type_keys(&options, ZKIT_KEY_UP, ZKIT_KEY_DOWN);
+    puts("the same in a clone");
+    type_keys_in_clone(&options);
     puts("delete, and a key that ends no line");
     type_keys(&options, ZKIT_KEY_DELETE, ZKIT_KEY_UP);
     puts("escape, and a new line");
@@ -1097,6 +1109,10 @@ static void open_greatest(const uint8_t *story, size_t length) {
     uint32_t reason = 99;
     zkit_close(zkit_open_snapshot(story, length, kept, size, NULL, &reason));
     say("opened without options", reason);
+    zkit_shared *shared = zkit_story_open(story, length, NULL);
+    zkit_close(zkit_story_resume(shared, kept, size, NULL, &reason));
+    say("opened of an open story without options", reason);
+    zkit_story_close(shared);
     open_within("opened within the greatest limits", story, length, kept, size, greatest);
     open_within("opened within the usual ones", story, length, kept, size, usual);
 }
