@@ -39,6 +39,8 @@ ROUTINE = 0x600
 CLOSE = bytes.fromhex("f33ffffd f33ffffd")  # the newest tables of stream 3
 LOWER, READ = bytes.fromhex("eb7f00"), bytes.fromhex("f67f0100")
 ROWS = bytes.fromhex("fe03") + hostile.words_of((hostile.TABLE + 2, 70, 60))
+# rows as long as they can be, of which no two are one part
+LONG_ROWS = b"\xfe\x00" + hostile.words_of((0, 65_535, USES, 1))
 TURNS = ((1, 1 << 20), (3, 1 << 20), (1_000_000_000, 64))
 TIME, MOST_TURNS = 6, 20_000
 
@@ -131,6 +133,8 @@ def main() -> int:
         for saying in SAYINGS
         for opcode, prints in instructions(version).items()
     }
+    for place, begin in PLACES.items():
+        stories[f"long rows to {place}"] = story(5, begin, SAYINGS["letters"], LONG_ROWS)
     with tempfile.TemporaryDirectory() as folder:
         bad = sum(not is_same(sys.argv[1], name, data, Path(folder)) for name, data in stories.items())
     print(f"{len(stories)} stories with long texts: {bad} differ in turns")

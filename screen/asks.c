@@ -172,26 +172,12 @@ enum fate answer_save(struct play *play) {
     return GOES_ON;
 }
 
-static uint32_t height_of(const zkit *game) {
-    zkit_window window = {.size = sizeof window};
-    zkit_window_of(game, &window);
-    return window.height;
-}
-
-/* Gives the upper window back that a restore takes away: stories past version 3 may think that it is still there. */
-static void restore_with_window(struct play *play, const uint8_t *bytes, size_t length) {
-    uint32_t height = height_of(play->game);
-    zkit_restore(play->game, bytes, length);
-    if (play->about.version > 3 && height_of(play->game) < height)
-        zkit_split(play->game, height);
-}
-
 /* Gives a file to the story, or tells why it can't be one. */
 static void restore(struct play *play, const char *path, const char *name) {
     size_t length;
     uint8_t *bytes = file_read(path, MOST_SAVE, &length);
     if (bytes && is_save_of(bytes, length, &play->about)) {
-        restore_with_window(play, bytes, length);
+        zkit_restore(play->game, bytes, length);
         snprintf(play->save_name, LONGEST_NAME, "%s", name);
     } else {
         notice(play, "[%s: %s]", name, bytes ? "no saved game of this story" : strerror(errno));

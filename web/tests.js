@@ -304,24 +304,56 @@ function seeds(module) {
     want(isSame && told.startsWith("zkit: division by zero\n"), `the words of a fault: ${told}`);
 }
 
+/** A story that reads characters, and prints each. */
+function echoing() {
+    const story = telling(" ".repeat(9));
+    // read_char 1 -> global 0; print_char global 0; jump back to the first
+    story.set([0xf6, 0x7f, 1, 0x10, 0xe5, 0xbf, 0x10, 0x8c, 0xff, 0xf8], 0x800);
+    return story;
+}
+
+/** A story of a version that reads a line into the bytes at 00200, and ends. */
+function reading(version) {
+    const story = telling(" ".repeat(9));
+    // read 0200 0300 -> global 0; quit. Version 3, where a read has no result: loadb #ba #00 -> global 1; quit
+    story.set([0xe4, 0x0f, 0x02, 0, 0x03, 0, 0x10, 0xba, 0, 0x11, 0xba], 0x800);
+    story[0] = version;
+    story[0x300] = 1;
+    // the dictionary, without a word
+    story.set([0x03, 0x80], 8);
+    story[0x381] = 9;
+    return story;
+}
+
+/** A byte order mark is a character without a code, at the start of an input too. */
+function marks(module) {
+    for (const [input, shown] of [["\ufeffab\nc\n", "?c"], ["\ufeff", "?"], ["\ufeff\r\na\n", "?a"]])
+        want(String(byModule(module, echoing(), {}, Buffer.from(input)).shown) === shown, `a mark: ${shown}`);
+    const [line, long] = ["\ufeff", "\ufeff" + "x".repeat(65_533)].map((it) => Buffer.from(it));
+    want(same(Buffer.concat([...linesOf(parts(line, 1))]), line), "a mark in parts");
+    want(byModule(module, echoing(), {}, long).last === "zkit: read failed", "a mark counts for the length of a line");
+    for (const [version, first] of [[3, 0x201], [5, 0x202], [8, 0x202]]) {
+        const game = module.open(reading(version));
+        play(game, { lines: linesOf([Buffer.from("\ufefflook\n")]) });
+        want(String(Buffer.from(game.memory(first, 5))) === "?look", `a mark in a line of version ${version}`);
+        game.close();
+    }
+}
+
 /** Lines as they may come: their ends, their lengths and their bytes. */
 function inputs(module) {
     const long = (length, rest = "") => Buffer.from("x".repeat(length) + rest);
     const lines = [
         "look\r\ninventory\r\n", "look\n\n\r\nlook", "look\r\r\n", "\xe4\xf6\n\xff\n", "look\tx\n\0\n",
-        "\u{1F600}\n", "\rq\nq\n", "\r", "\r\r\nq\n", "q\r", "\ufeffroll\nq\n", "\ufeff", "\ufeff\r\nq\n",
-        "\ufeff\ufeffroll\n", "roll\n\ufeffroll\n", "q\n\ufeffq\nq\n", "\ufeff\ufeff\nq\n",
+        "\u{1F600}\n", "\rq\nq\n", "\r", "\r\r\nq\n", "q\r", "roll\n\ufeffroll\n", "q\n\ufeffq\nq\n",
     ];
     const marks = [[0xef], [0xef, 0xbb], [0xef, 0xbb, 10, 0xbf, 10], [0xef, 0xef, 0xbb, 0xbf, 10, 113, 10], [0xbb, 10]];
     const all = [
         NONE, ...[...marks, ...lines].map((it) => Buffer.from(it)), ...lines.map((text) => Buffer.from(text, "latin1")),
         long(65_535), long(65_536), long(65_535, "\nlook\n"), long(70_000), long(65_535, "\r\nlook\n"),
         long(65_534, "\r\nlook\n"), long(65_535, "\r"),
-        Buffer.concat([Buffer.from("\ufeff"), long(65_535, "\nlook\n")]),
     ];
-    const echo = telling(" ".repeat(9));
-    // read_char 1 -> global 0; print_char global 0; jump back to the first
-    echo.set([0xf6, 0x7f, 1, 0x10, 0xe5, 0xbf, 0x10, 0x8c, 0xff, 0xf8], 0x800);
+    const echo = echoing();
     for (const [i, input] of all.entries()) {
         const z5 = example("lighthouse.z5");
         for (const [name, story, before] of [["a line", z5, ""], ["keys", echo, ""], ["both", MENU, "menu\n"]]) {
@@ -1036,7 +1068,7 @@ function badArguments(module) {
     other.close();
 }
 
-/** The upper window is given back after a restore. */
+/** The upper window keeps its height after a restore, and a host gives it any. */
 function split(module) {
     const game = module.open(restoringWindow());
     game.turn();
@@ -1044,9 +1076,9 @@ function split(module) {
     game.saved(true);
     want(game.turn() === "restore" && game.window().height === 1, "split: a row before the restore");
     game.restore(file);
-    want(game.window().height === 0, "split: none after it");
-    want(game.split(1) && game.window().height === 1, "split: a row again");
+    want(game.window().height === 1, "split: a row after it");
     want(game.turn() === "character" && game.window().height === 1, "split: a row at the read");
+    want(game.split(2) && game.window().height === 2, "split: another row");
     want(game.split(-1) && game.window().height === 255, "split: no more than 255");
     game.close();
 }
@@ -1101,10 +1133,10 @@ async function worker() {
 
 async function main() {
     const tests = [
-        rows, examples, windows, listings, refusals, wordsOfReasons, refusedFiles, limits, seeds, inputs, commands,
-        sums, figures, styles, widths, fonts, cells, keys, split, badArguments, firstCharacters, lastLines, blorbs,
-        snapshots, snapshotRefusals, clones, shared, steps, changes, looks, thousand, large, full, refusedRequests,
-        refusedCalls, worker, generated,
+        rows, examples, windows, listings, refusals, wordsOfReasons, refusedFiles, limits, seeds, inputs, marks,
+        commands, sums, figures, styles, widths, fonts, cells, keys, split, badArguments, firstCharacters, lastLines,
+        blorbs, snapshots, snapshotRefusals, clones, shared, steps, changes, looks, thousand, large, full,
+        refusedRequests, refusedCalls, worker, generated,
     ];
     for (const test of NAMES.length === 0 ? tests : NAMES.map((name) => tests.find((it) => it.name === name))) {
         const begin = performance.now();

@@ -617,9 +617,8 @@ static zkit *reading_keys(const zkit_options *options) {
     return opened(story, sizeof story, options);
 }
 
-/* Types a character, and a line that a key ends. */
-static void type_keys(const zkit_options *options, uint32_t character, uint32_t key) {
-    zkit *game = reading_keys(options);
+/* Types a character, and a line that a key ends, and closes the game. */
+static void type_keys_in(zkit *game, uint32_t character, uint32_t key) {
     say("a line is not awaited yet", zkit_line_ended(game, NULL, 0, key));
     zkit_turn(game);
     say("character", zkit_character(game, character));
@@ -631,6 +630,17 @@ static void type_keys(const zkit_options *options, uint32_t character, uint32_t 
     zkit_close(game);
 }
 
+static void type_keys(const zkit_options *options, uint32_t character, uint32_t key) {
+    type_keys_in(reading_keys(options), character, key);
+}
+
+static void type_keys_in_clone(const zkit_options *options) {
+    zkit *game = reading_keys(options);
+    zkit_turn(game);
+    type_keys_in(zkit_clone(game, NULL), ZKIT_KEY_UP, ZKIT_KEY_DOWN);
+    zkit_close(game);
+}
+
 /* Keys that are not characters are read as themselves where the option is not 0, and as question marks else. */
 static void use_keys(void) {
     zkit_options options = defaults();
@@ -639,6 +649,8 @@ static void use_keys(void) {
     options.keys = 1;
     puts("the same with the option");
     type_keys(&options, ZKIT_KEY_UP, ZKIT_KEY_DOWN);
+    puts("the same in a clone");
+    type_keys_in_clone(&options);
     puts("delete, and a key that ends no line");
     type_keys(&options, ZKIT_KEY_DELETE, ZKIT_KEY_UP);
     puts("escape, and a new line");
@@ -655,19 +667,24 @@ static void use_keys(void) {
     type_keys(&options, ZKIT_KEY_UP, ZKIT_KEY_DOWN);
 }
 
+static void show_row(const char *name, size_t count, const uint8_t *row) {
+    printf("  %s: '%.*s'\n", name, (int)count, (const char *)row);
+}
+
 static uint32_t height_of(const zkit *game) {
     zkit_window window = {.size = sizeof window};
     zkit_window_of(game, &window);
     return window.height;
 }
 
-/* A story has no upper window after a restore: the host gives it back. */
-static void split_after_restore(void) {
-    /* split_window 1; save -> global 16; je global 16, 2 ?read; restore -> global 17; read: read_char 1 -> global 18;
-     * quit */
-    const uint8_t code[] = {0xea, 0x7f, 0x01, 0xbe, 0x00, 0xff, 0x10, 0x41, 0x10, 0x02, 0xc6,
-                            0xbe, 0x01, 0xff, 0x11, 0xf6, 0x7f, 0x01, 0x12, 0xba};
-    uint8_t file[SMALL];
+/* A restore leaves the upper window its height, with blank rows. */
+static void restore_window(void) {
+    /* split_window 2; set_window 1; print_char 'u'; set_window 0; save -> global 16; je global 16, 2 ?read;
+     * restore -> global 17; read: read_char 1 -> global 18; quit */
+    const uint8_t code[] = {0xea, 0x7f, 0x02, 0xeb, 0x7f, 0x01, 0xe5, 0x7f, 0x75, 0xeb, 0x7f, 0x00,
+                            0xbe, 0x00, 0xff, 0x10, 0x41, 0x10, 0x02, 0xc6, 0xbe, 0x01, 0xff, 0x11,
+                            0xf6, 0x7f, 0x01, 0x12, 0xba};
+    uint8_t file[SMALL], row[8];
     size_t length = 0;
     zkit *game = opened_code(code, sizeof code, NULL);
     puts("an upper window after a restore");
@@ -676,12 +693,44 @@ static void split_after_restore(void) {
     say("saved", zkit_saved(game, 1));
     say("turn", zkit_turn(game));
     say("height", height_of(game));
+    show_row("row", zkit_row(game, 1, row, sizeof row), row);
     say("restore", zkit_restore(game, file, length));
     say("height", height_of(game));
-    say("split", zkit_split(game, 1));
-    say("height", height_of(game));
+    show_row("row", zkit_row(game, 1, row, sizeof row), row);
     say("turn", zkit_turn(game));
     say("height at the read", height_of(game));
+    zkit_close(game);
+}
+
+/* In version 3 it takes the upper window away (section 8.6.1.3). */
+static void restore_window_of_3(void) {
+    /* split_window 3; save ?restore; restore: restore ?quit; quit: quit */
+    const uint8_t code[] = {0xea, 0x7f, 0x03, 0xb5, 0xc2, 0xb6, 0xc2, 0xba};
+    uint8_t story[SMALL], file[SMALL];
+    size_t length = 0;
+    make_story(story, code, sizeof code);
+    story[0] = 3;
+    zkit *game = opened(story, sizeof story, NULL);
+    puts("the same in version 3");
+    zkit_turn(game);
+    say("image", zkit_image(game, file, sizeof file, &length));
+    say("saved", zkit_saved(game, 1));
+    say("turn", zkit_turn(game));
+    say("height", height_of(game));
+    say("restore", zkit_restore(game, file, length));
+    say("height", height_of(game));
+    zkit_close(game);
+}
+
+/* A host gives the upper window rows. */
+static void split(void) {
+    /* read_char 1 -> global 16; quit */
+    const uint8_t code[] = {0xf6, 0x7f, 0x01, 0x10, 0xba};
+    zkit *game = opened_code(code, sizeof code, NULL);
+    puts("an upper window that a host splits");
+    say("turn", zkit_turn(game));
+    say("split", zkit_split(game, 1));
+    say("height", height_of(game));
     say("more rows than there may be", zkit_split(game, 65536 + 2));
     say("height", height_of(game));
     say("no row", zkit_split(game, 0));
@@ -721,7 +770,9 @@ static void use_options(void) {
     use_fonts_by_options();
     use_columns();
     use_keys();
-    split_after_restore();
+    restore_window();
+    restore_window_of_3();
+    split();
     split_in_a_text();
 }
 
@@ -821,10 +872,6 @@ static void fill_room(void) {
     say("turn", zkit_turn(game));
     say("text", zkit_text(game, buffer, sizeof buffer));
     zkit_close(game);
-}
-
-static void show_row(const char *name, size_t count, const uint8_t *row) {
-    printf("  %s: '%.*s'\n", name, (int)count, (const char *)row);
 }
 
 static void show_window(zkit *game) {
@@ -1062,6 +1109,10 @@ static void open_greatest(const uint8_t *story, size_t length) {
     uint32_t reason = 99;
     zkit_close(zkit_open_snapshot(story, length, kept, size, NULL, &reason));
     say("opened without options", reason);
+    zkit_shared *shared = zkit_story_open(story, length, NULL);
+    zkit_close(zkit_story_resume(shared, kept, size, NULL, &reason));
+    say("opened of an open story without options", reason);
+    zkit_story_close(shared);
     open_within("opened within the greatest limits", story, length, kept, size, greatest);
     open_within("opened within the usual ones", story, length, kept, size, usual);
 }

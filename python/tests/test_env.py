@@ -7,7 +7,7 @@ import time
 import unittest
 from typing import Optional
 
-from helping import GAMES, LINES, STORIES, TOP, example
+from helping import GAMES, LINES, STORIES, TOP, example, small
 from test_docs import members
 from zkit import Awaits, Closed, NotAwaited, NotThere
 from zkit.env import Environment, State, figures
@@ -77,6 +77,10 @@ class Steps(unittest.TestCase):
             self.assertTrue(env.step("")[2])
             self.assertFalse(env.step("restart")[2])
             self.assertFalse(env.game_over())
+
+    def test_key(self) -> None:
+        with Environment(small("keys.z5")) as env:
+            self.assertEqual(env.step("yes")[0], str(ord("y")))
 
     def test_fault(self) -> None:
         with Environment(str(TOP / "web/page_tests/menu.z5"), steps=50_000) as env:

@@ -39,7 +39,8 @@ from zkit.explore.merged import Merged
 from zkit.explore.messages import Teller
 from zkit.explore.names import program_of
 from zkit.explore.parts import Part
-from zkit.explore.plays import Trail, replay
+from zkit.explore.player import Player
+from zkit.explore.plays import Trail, begin, replay
 from zkit.explore.report import as_json, as_text
 from zkit.explore.seen import Seen, place_of
 from zkit.explore.shorten import Lines, Shortener
@@ -582,6 +583,16 @@ class Parts(unittest.TestCase):
         self.assertEqual(words.sight("The Postbag, a letter, the postbag; nothing."), ["postbag", "letter"])
         none = vocabulary_of(small("keys.z5"))
         self.assertTrue(none.verbs and none.nouns and none.prepositions and none.directions)
+
+    def test_state(self) -> None:
+        story = example("lighthouse.z5")
+        game, reply = begin(story, 1)
+        with game:
+            player = Player.fresh(game, reply, vocabulary_of(story), 1)
+            player.send("undo on")
+            player.send("north")
+            with player.state(0).open(story) as other:
+                self.assertEqual(other.place.states, 1)
 
     def test_new(self) -> None:
         seen = Seen(0)

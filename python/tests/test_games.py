@@ -116,6 +116,13 @@ class Answers(Raising):
                 self.assertIs(game.reply, before)
             self.assertIn("Jetty", game.send("look").text)
 
+    def test_mark(self) -> None:
+        # a byte order mark at the start is a character without a code, as anywhere else
+        for version, first in ((3, 0x81), (5, 0x82), (8, 0x82)):
+            with Game(small(f"reads.z{version}")) as game:
+                game.send("\ufefflook")
+                self.assertEqual(game.memory[first:first + 5], b"?look")
+
     def test_keys(self) -> None:
         with Game(small("keys.z5")) as game:
             for key in Key:

@@ -200,6 +200,14 @@ class TheObjects(unittest.TestCase):
                 self.assertEqual(len(game.objects), len(told))
                 self.assertEqual(repr(game.objects), f"<Objects 1 to {len(told)}>")
 
+    def test_last_attribute(self) -> None:
+        with Game(small("attribute.z4")) as game:
+            self.assertEqual([it.attributes for it in game.objects], [{47}])
+
+    def test_circle(self) -> None:
+        with Game(small("circle.z3")) as game:
+            self.assertEqual([it.number for it in game.objects.ancestors(1)], [2, 3, 4])
+
     def test_bytes(self) -> None:
         with Game(example("lighthouse.z5"), steps=1) as game:
             lines = [line.split() for line in game.story.listing("properties").splitlines()]

@@ -7,7 +7,7 @@ import unittest
 from typing import Any
 
 from helping import EXAMPLES, LINES, TOP, answer, example, play, small, whole
-from zkit import Awaits, Game, NothingToUndo, SnapshotError, Story, TooMuchText
+from zkit import Awaits, Game, Key, NothingToUndo, SnapshotError, Story, TooMuchText
 
 
 class Saves(unittest.TestCase):
@@ -37,6 +37,10 @@ class Saves(unittest.TestCase):
         with Game(small("window.z5")) as game:
             self.assertEqual(game.reply.upper, ("",))
             self.assertEqual([game.send_key("a").upper for _ in range(3)], [("",)] * 3)
+        with Game(small("window.z3")) as game:
+            self.assertEqual(game.reply.upper, ("", "", ""))
+            game.send("")
+            self.assertEqual(game.send("").upper, ())
 
     def test_by_the_caller(self) -> None:
         with Game(example("lighthouse.z5"), saves=False) as game:
@@ -100,6 +104,9 @@ class Snapshots(unittest.TestCase):
                 with Game.from_snapshot(story, game.snapshot(undo=undo)) as other:
                     text = other.send("undo").text
                     self.assertEqual("Jetty" in text, undo, text)
+            play(game, ["look"] * 20)
+            with Game.from_snapshot(story, game.snapshot(undo=True)) as other:
+                self.assertEqual(other.place.states, 16)
 
     def test_refused(self) -> None:
         story = example("lighthouse.z5")
@@ -187,6 +194,8 @@ class Clones(unittest.TestCase):
                 other.send(". ".join(["look"] * 20))
             other.go_on()
             self.assertIs(other.send("save").awaits, Awaits.SAVE)
+        with Game(small("keys.z5")) as game, game.clone() as other:
+            self.assertEqual(other.send_key(Key.UP).text, "129")
 
     def test_transcript(self) -> None:
         with Game(small("script.z5")) as game, game.clone() as other:

@@ -724,14 +724,8 @@ class Game:
 
 
 def _give(game: int, file: Optional[bytes]) -> int:
-    """Gives a saved game, and the rows of the upper window again, which many stories think are still there."""
-    if file is None:
-        return _library.restore_none(game)
-    height = _window(game).height
-    returned = _library.restore(game, file, len(file))
-    if returned == _library.DONE and _window(game).height < height:
-        _library.split(game, height)
-    return returned
+    """Gives a saved game, or tells that there is none."""
+    return _library.restore_none(game) if file is None else _library.restore(game, file, len(file))
 
 
 def _window(game: int) -> _library.Window:

@@ -170,6 +170,7 @@ static void try_rights(const char *folder) {
 /* Of 25 saved games the 20 newest are listed, the newest first, and those of one time by their names. */
 static void try_saves(const char *folder) {
     static const zkit_story story = {.release = 0x102, .checksum = 0x304, .serial = "261130"};
+    static const zkit_story without_sum = {.release = 0x102, .serial = "261130"};
     static const uint8_t bytes[34] = "FORM....IFZSIFhd\0\0\0\r\1\2""261130\3\4";
     static const int listed[] = {24, 22, 23, 20, 18, 19, 16, 17, 14, 15, 12, 13, 10, 11, 8, 9, 6, 7, 4, 5};
     static struct saved saves[MOST_SAVES];
@@ -193,6 +194,7 @@ static void try_saves(const char *folder) {
         other[i]++;
         TRY(is_save_of(other, sizeof other, &story) == (i < 20 || i > 29));
     }
+    TRY(is_save_of(bytes, 34, &without_sum));
     TRY(is_save_of(bytes, 34, &story) && !is_save_of(bytes, 33, &story) && saves_in("nowhere", &story, saves) == 0);
 }
 

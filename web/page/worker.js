@@ -106,18 +106,6 @@ function freshen() {
 }
 
 /**
- * Gives the story a saved game, and its upper window back: stories past version 3 may think that it is still there.
- * @param {Uint8Array} file
- */
-function restore(file) {
-    const { height } = game.window();
-    const isTaken = game.restore(file);
-    if (isTaken && game.story().version > 3 && game.window().height < height)
-        game.split(height);
-    return isTaken;
-}
-
-/**
  * Gives the story an answer, and tells whether it took it.
  * @param {Answer} answer
  */
@@ -129,7 +117,7 @@ function give(answer) {
     if ("saved" in answer)
         return game.saved(answer.saved);
     if ("restored" in answer)
-        return answer.restored === null ? game.restore(null) : restore(fromBase64(answer.restored));
+        return game.restore(answer.restored === null ? null : fromBase64(answer.restored));
     return "undo" in answer ? game.undo() : "fresh" in answer && freshen();
 }
 

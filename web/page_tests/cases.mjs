@@ -331,6 +331,8 @@ async function linesBackAndForth(page) {
     await page.leave();
     await choose(3);
     same(await page.transcript(), text, "the transcript at the end again");
+    await page.lines();
+    same(await page.run(() => document.querySelectorAll("#line-list li").length), 3, "how many lines there are then");
 }
 
 async function linkOfOwnStory(page) {

@@ -250,7 +250,7 @@ async function statedByBlorb(page) {
  * The walkthrough shows itself as a play: its comments and checks are not typed, keys are keys, and its seed counts.
  */
 async function walkthrough(page) {
-    const text = "\ufeff# seed: 7\n#\n# (of a test)\nroll\n! You\n!~ no\n\\# odd\n\nmenu\nn\n\nq\r\nroll\n";
+    const text = "\ufeff# seed: 7\n#\n# (of a test)\nroll\n! You\n!~ no\n\\# odd\n#version\n\nmenu\nn\n\nq\r\nroll\n";
     const own = ownPage(page, { story: readFileSync(MENU), file: "menu.z5", title: "Hall", walkthrough: text });
     await own.fresh();
     await own.rests();
@@ -268,15 +268,15 @@ async function walkthrough(page) {
     await own.rests();
     same(await own.focus(), "line 0", "the focus and the caret");
     await own.seesNewest("the newest turn is not seen");
-    const lines = ["roll", "# odd", "", "menu", "n", "", "q", "roll"];
+    const lines = ["roll", "# odd", "#version", "", "menu", "n", "", "q", "roll"];
     const shown = (await own.transcript()).split("\n").filter((line) => line.startsWith(">")).join();
-    same(shown, ">roll,># odd,>,>menu,>roll,>", "the lines of the walkthrough");
+    same(shown, ">roll,># odd,>#version,>,>menu,>roll,>", "the lines of the walkthrough");
     const rolls = (it) => it.split("\n").filter((line) => /roll|\d/.test(line)).join();
     same(rolls(await own.transcript()), rolls(played(MENU, lines, "--seed", "7")), "what was rolled");
     await own.lines();
     const list = await own.run(() =>
         [...document.querySelectorAll("#line-list li")].map((it) => it.textContent).join());
-    same(list, "roll,# odd,(an empty line),menu,key n,key Enter,key q,roll", "the list of lines");
+    same(list, "roll,# odd,#version,(an empty line),menu,key n,key Enter,key q,roll", "the list of lines");
     await own.click("#line-list li:nth-child(2) button");
     await own.until(() => document.querySelectorAll("#scroller .typed").length === 1);
     await own.rests();

@@ -292,7 +292,21 @@ async function continues(page) {
     }
 }
 
-/** The twelve newest plays are kept. */
+/** Whether the browser keeps so many stories. */
+function keepsStories(count) {
+    return new Promise((resolve) => {
+        const request = indexedDB.open("zkit");
+        request.onsuccess = () => {
+            const asked = request.result.transaction("stories").objectStore("stories").count();
+            asked.onsuccess = () => {
+                request.result.close();
+                resolve(asked.result === count);
+            };
+        };
+    });
+}
+
+/** The twelve newest plays are kept, and their stories. */
 async function twelvePlays(page) {
     await page.fresh();
     const story = (i) => telling(`This is story ${i}.\n>`);
@@ -300,6 +314,7 @@ async function twelvePlays(page) {
         await play(page, story(i), `story${i}.z5`);
         await page.say("hello");
     }
+    await page.until(keepsStories, 12);
     await page.drop(story(1), "story1.z5");
     await page.shown("asking");
     await page.click("#asking-yes");
