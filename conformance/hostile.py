@@ -4,8 +4,8 @@
 usage: conformance/hostile.py FOLDER [STORY ..]
 
 FOLDER gets a story for each kind of work, each place where text can go and each of the greatest lengths, as
-`letters.upper.z3`. Each does nothing but that work, and ends. Others, as `shifts.names.z3` and `shifts.code.z8`, have
-names and code that are long to list. Where stories are named, these alone are written.
+`letters.upper.z3`. Each does nothing but that work, and ends. Others, as `shifts.names.z3` and `strings.z8`, have
+names, code, texts and properties that are long to list. Where stories are named, these alone are written.
 """
 
 from __future__ import annotations
@@ -125,6 +125,41 @@ def long_print(version: int, saying: str) -> bytes:
     return story(version, code, abbreviations(middle), (middle, text))
 
 
+def same_instruction(version: int, instruction: bytes) -> bytes:
+    """Code that is one instruction over and over, up to the story's end."""
+    return story(version, instruction * ((LENGTHS[version] - CODE - 2) // len(instruction)))
+
+
+def printed_strings(version: int, has_end: bool) -> bytes:
+    """Half a story of `print_paddr` of one text, which has the other half: up to the story's end, or without an end."""
+    middle = LENGTHS[version] // 2
+    code = (b"\x8d" + words_of([middle // UNITS[version]])) * ((middle - CODE - 2) // 3)
+    end = (LENGTHS[version] - 2, b"\x80\0" if has_end else b"\0\0")
+    return story(version, code, end)
+
+
+def shared_properties(version: int, has_end: bool) -> bytes:
+    """As many objects as there may be, each in the one before, on one property list up to the end of data."""
+    first, length, pointer = (62, 9, 7) if version == 3 else (126, 14, 12)
+    count = 255 if version == 3 else 3_000
+    entries = bytearray(count * length)
+    table = OBJECTS + first + len(entries)
+    for at in range(0, len(entries), length):
+        number = at // length + 1
+        links = bytes((number - 1, 0, number % count + 1)) if version == 3 else words_of((number - 1, 0, number + 1))
+        entries[at + pointer - len(links):at + pointer + 2] = links + words_of([table])
+    list_of = b"\0" + b"\x1f\0" * ((STATIC - table - 1) // 2) + (b"\0" if has_end else b"")
+    code = b"\xba"
+    pieces = ((OBJECTS + first, bytes(entries)), (table, list_of[:0x10000 - table]))
+    data = bytearray(story(version, b"", *pieces))
+    if not has_end:
+        # each address of data begins a property
+        data[table + len(list_of):0x10000] = b"\x1f" * (0x10000 - table - len(list_of))
+    data[0x40:0x41] = code
+    data[6:8] = words_of([0x40])
+    return bytes(data)
+
+
 def all_stories() -> dict[str, bytes]:
     """The stories by their names."""
     stories: dict[str, bytes] = {}
@@ -138,6 +173,11 @@ def all_stories() -> dict[str, bytes]:
             stories[f"{saying}.check.z{version}"] = long_check(version, saying)
             stories[f"{saying}.names.z{version}"] = long_names(version, saying)
             stories[f"{saying}.code.z{version}"] = long_print(version, saying)
+        for name, instruction in (("short", b"\xb4"), ("refused", b"\xbc"), ("letter", b"\xb2\x98\xe8")):
+            stories[f"{name}.instructions.z{version}"] = same_instruction(version, instruction)
+        for end, has_end in (("end", True), ("endless", False)):
+            stories[f"{end}.strings.z{version}"] = printed_strings(version, has_end)
+            stories[f"{end}.properties.z{version}"] = shared_properties(version, has_end)
     return stories
 
 

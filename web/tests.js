@@ -176,11 +176,25 @@ function byProgramListed(listing, file) {
     return run(["info", `--${listing}`, file]).shown.toString().replace(/^\[[a-z]+\]\n/, "");
 }
 
+/** The parts of a listing together. */
+function inParts(game, listing) {
+    const parts = [];
+    let part;
+    do {
+        part = game.listFor(listing, 500);
+        parts.push(part.bytes);
+    } while (part.goesOn);
+    return Buffer.concat(parts).toString();
+}
+
 function listingsOf(module, file) {
     const game = module.open(fs.readFileSync(file));
-    for (const listing of LISTINGS)
-        want(game.list(listing) === byProgramListed(listing, file), `${path.basename(file)}: ${listing}`);
-    want(game.list("nothing") === null, "there is no such listing");
+    for (const listing of LISTINGS) {
+        const told = byProgramListed(listing, file);
+        want(game.list(listing) === told, `${path.basename(file)}: ${listing}`);
+        want(inParts(game, listing) === told, `${path.basename(file)}: ${listing}, in parts`);
+    }
+    want(game.list("nothing") === null && game.listFor("nothing", 1) === null, "there is no such listing");
     const bytes = Buffer.from(game.list("ifid") ?? "").length;
     want(game.list("ifid", bytes) !== null, "a listing has as many bytes as it may");
     game.calls.zkit_list(game.at, LISTINGS.indexOf("ifid"));

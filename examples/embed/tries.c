@@ -1223,6 +1223,49 @@ static void refuse_listings(const uint8_t *story, size_t length) {
     zkit_close(game);
 }
 
+/* Makes a listing in parts, and tells whether they are the listing, and how many parts there were. */
+static void list_in_parts(zkit *game, uint32_t listing, uint32_t steps) {
+    static uint8_t whole[20000], parts[20000];
+    size_t count = 0;
+    uint32_t listed, calls = 0;
+    zkit_list(game, listing);
+    size_t length = zkit_listing(game, whole, sizeof whole);
+    do {
+        listed = zkit_list_for(game, listing, steps);
+        size_t more = zkit_listing(game, parts + count, sizeof parts - count);
+        if (calls == 0)
+            say("the first part", more);
+        count += more;
+        calls++;
+    } while (listed == ZKIT_LISTING_GOES_ON);
+    say("the last part", listed);
+    say("the parts are the listing", count == length && memcmp(whole, parts, length) == 0);
+    say("there are many", calls > 3);
+}
+
+/* Listings in parts, of one line each and of all of them; one that ends another; and those that are refused. */
+static void list_parts(const uint8_t *story, size_t length) {
+    uint8_t buffer[40];
+    puts("listings in parts");
+    zkit *game = opened(story, length, NULL);
+    list_in_parts(game, ZKIT_LIST_HEADER, 0);
+    list_in_parts(game, ZKIT_LIST_OBJECTS, 1000);
+    list_in_parts(game, ZKIT_LIST_HEADER, UINT32_MAX);
+    say("one is begun", zkit_list_for(game, ZKIT_LIST_IFID, 1));
+    say("and another", zkit_list_for(game, ZKIT_LIST_MAP, 1));
+    say("the first one is begun again", zkit_list_for(game, ZKIT_LIST_IFID, 1));
+    say("its first bytes", zkit_listing(game, buffer, sizeof buffer));
+    say("it goes on", zkit_list_for(game, ZKIT_LIST_IFID, 1));
+    say("its bytes", zkit_listing(game, buffer, sizeof buffer));
+    say("one is begun", zkit_list_for(game, ZKIT_LIST_IFID, 1));
+    say("a whole one ends it", zkit_list(game, ZKIT_LIST_IFID));
+    say("it is begun again", zkit_list_for(game, ZKIT_LIST_IFID, 1));
+    say("its first bytes", zkit_listing(game, buffer, sizeof buffer));
+    say("one that there is not", zkit_list_for(game, ZKIT_LIST_EXTENSION + 1, 1));
+    say("it is begun again", zkit_list_for(game, ZKIT_LIST_IFID, 1));
+    zkit_close(game);
+}
+
 /* Puts the same word so many times, as a text with its end. */
 static void put_text(uint8_t *at, uint16_t word, size_t count) {
     for (size_t i = 0; i < count; i++, at += 2) {
@@ -1382,6 +1425,7 @@ int main(int count, char **words) {
     fill_room_from_snapshot();
     tell_story(lighthouse, length);
     refuse_listings(lighthouse, length);
+    list_parts(lighthouse, length);
     bound_listing();
     name_reasons();
     name_refusals();

@@ -3,9 +3,11 @@
 from __future__ import annotations
 
 import pickle
+import signal
 import struct
 import subprocess
 import threading
+import time
 import unittest
 
 from helping import EXAMPLES, PROGRAM, TOP, example
@@ -93,6 +95,23 @@ class Listings(unittest.TestCase):
     def test_finding(self) -> None:
         damaged = Story(LIGHTHOUSE[:0x1C] + bytes(2) + LIGHTHOUSE[0x1E:])
         self.assertIn("C1 0001c checksum", damaged.listing("findings"))
+
+    def test_interrupted(self) -> None:
+        def stop(*_: object) -> None:
+            raise KeyboardInterrupt
+
+        # half a million instructions of a byte
+        story = Story(bytes([8, 0, 0, 0, 0, 64, 0, 64]) + bytes(6) + bytes([0, 64]) + bytes(48) + b"\xb4" * (524_288 - 64))
+        before = signal.signal(signal.SIGALRM, stop)
+        try:
+            signal.setitimer(signal.ITIMER_REAL, 0.05)
+            begin = time.process_time()
+            with self.assertRaises(KeyboardInterrupt):
+                while True:
+                    story.listing("code")
+            self.assertLess(time.process_time() - begin, 2)
+        finally:
+            signal.signal(signal.SIGALRM, before)
 
     def test_bounds(self) -> None:
         story = example("lighthouse.z5")

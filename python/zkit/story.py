@@ -136,7 +136,7 @@ class Story:
 
 
 def _goes_on(game: int, listing: int, parts: list[bytes]) -> bool:
-    """Makes a further part of a listing, between two of which Python hears a Ctrl-C, and tells whether more is to come."""
+    """Makes a part of a listing, and tells whether more is to come. Between two of them Python hears a Ctrl-C."""
     returned = _library.list_for(game, listing, STEPS)
     if returned == _library.LISTING_TOO_MANY_WORDS:
         raise ListingError("the listing has too many lines, or its texts are too long")

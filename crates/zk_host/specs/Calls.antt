@@ -145,8 +145,8 @@ abbrev pub IsGivenUnless : Option Refusal → Session → Play → Play → Resu
 IsGivenUnless None before old new result a = (result ≡ Ok tt) × IsGiven before old new a
 IsGivenUnless (Some r) before old new result a = (result ≡ Err r) × (new ≡ old)
 
--- a machine after an answer by a saved game: a restore closes the upper window (section 8.6.1), and past version 3 it is
--- given back with the height that it had, as `split_window` would
+-- a machine after an answer by a saved game: a restore closes the upper window, and past version 3 it is given back
+-- with the height that it had, as `split_window` would (section 15)
 abbrev pub with_height_kept : ℕ → Session → Session
 with_height_kept height s =
     if nat_lt 3 s.state.game.memory.version && nat_lt s.state.game.windows.height height

@@ -1,6 +1,6 @@
 -- Listings of a play's story, whole and in parts.
-use Rattle.std.specs.Prelude.{◌≡◌, ◌≤◌, ◌<◌, ◌⊎◌, ◌++◌, ◌==◌, ⊥, ℕ, Bool, true, false, List, [], length, drop, Option, Some}
-use Rattle.std.specs.Prelude.{None, Result, Ok, Err}
+use Rattle.std.specs.Prelude.{◌≡◌, ◌≤◌, ◌<◌, ◌⊎◌, ◌++◌, ◌==◌, ⊥, ℕ, Bool, true, false, List, [], length, drop}
+use Rattle.std.specs.Prelude.{Option, Some, None, Result, Ok, Err}
 use Rattle.std.specs.Global.{Box}
 use Rattle.zk_mem.specs.Fresh.{fresh, plain_setup}
 use Rattle.zk_mem.specs.Map.{MemoryMap}

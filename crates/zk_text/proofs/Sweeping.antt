@@ -21,8 +21,8 @@ use Rattle.zk_text.specs.Meaning.{Units, abbreviation, joined, meaning_at, value
 use Rattle.zk_text.specs.Pieces.{piece_before, pieces, pieces_past}
 use Rattle.zk_text.specs.Reading.{held_back}
 use Rattle.zk_text.specs.Words.{z_characters}
-use Rattle.zk_text.specs.Sweeps.{AreFaults, AreKnown, IsRestBy, IsTextRestBy, fault_behind, fault_by, fault_of, first_of}
-use Rattle.zk_text.specs.Sweeps.{piece_fault_by}
+use Rattle.zk_text.specs.Sweeps.{AreFaults, AreKnown, IsRestBy, IsTextRestBy, fault_behind, fault_by, fault_of}
+use Rattle.zk_text.specs.Sweeps.{first_of, piece_fault_by}
 use Rattle.zk_text.proofs.Giving.{values_first}
 use Rattle.zk_text.proofs.TextWords.{held_ends}
 
@@ -122,7 +122,8 @@ letters_by expand m h next a b c ys zs e =
     ∙ before_fault expand m (Some (Letter A0 b)) (Letter A0 c ∷ ps) ∙ before_fault expand m (Some (Letter A0 c)) ps)
 
 -- what is kept for each that may be held back
-pub rest_of : (expand : ℕ → Units) (m : MemoryMap) (zs : List ℕ) (r : Rest) → r.nothing ≡ fault_by expand m held.Nothing zs
+pub rest_of : (expand : ℕ → Units) (m : MemoryMap) (zs : List ℕ) (r : Rest)
+    → r.nothing ≡ fault_by expand m held.Nothing zs
     → r.first ≡ fault_by expand m held.First zs → r.second ≡ fault_by expand m held.Second zs
     → r.third ≡ fault_by expand m held.Third zs → r.shift_to_a1 ≡ fault_by expand m held.ShiftToA1 zs
     → r.shift_to_a2 ≡ fault_by expand m held.ShiftToA2 zs → r.escape ≡ fault_by expand m held.Escape zs
@@ -174,22 +175,25 @@ last_rest expand m a w none r e high before ends =
     let test : nat_le 32768 w ≡ true = grind (arith, nat_tests) in
     (w ∷ [], rw test at (word_there m a w e), before [] ends)
 
-pub further_rest : (expand : ℕ → Units) (m : MemoryMap) (a w : ℕ) (o : Option Rest) (rest r : Rest) → code_word_at m a ≡ Some w
-    → w < 32768 → o ≡ Some rest → IsTextRestBy expand m (a + 2) o → ((ws : List ℕ) → IsRestBy expand m (z_characters ws) rest
+pub further_rest : (expand : ℕ → Units) (m : MemoryMap) (a w : ℕ) (o : Option Rest) (rest r : Rest)
+    → code_word_at m a ≡ Some w → w < 32768 → o ≡ Some rest → IsTextRestBy expand m (a + 2) o
+    → ((ws : List ℕ) → IsRestBy expand m (z_characters ws) rest
     → IsRestBy expand m (z_characters (w ∷ ws)) r) → IsTextRestBy expand m a (Some r)
 further_rest expand m a w o rest r e low is h before =
     let test : nat_le 32768 w ≡ false = grind (arith, nat_tests) in
     let k = subst (IsTextRestBy expand m (a + 2)) is h in
     (w ∷ k.0, word_there m a w e ∙ rw (test, k.1) refl, before k.0 k.2)
 
-pub no_rest : (expand : ℕ → Units) (m : MemoryMap) (a w : ℕ) (o : Option Rest) → code_word_at m a ≡ Some w → w < 32768 → o ≡ None
+pub no_rest : (expand : ℕ → Units) (m : MemoryMap) (a w : ℕ) (o : Option Rest) → code_word_at m a ≡ Some w
+    → w < 32768 → o ≡ None
     → IsTextRestBy expand m (a + 2) o → words_at m a ≡ None
 no_rest expand m a w o e low is h =
     let test : nat_le 32768 w ≡ false = grind (arith, nat_tests) in
     let k = subst (IsTextRestBy expand m (a + 2)) is h in
     word_there m a w e ∙ rw (test, k) refl
 
-pub rest_fault : (expand : ℕ → Units) (m : MemoryMap) (a : ℕ) (o : Option Rest) (rest : Rest) → o ≡ Some rest → IsTextRestBy expand m a o
+pub rest_fault : (expand : ℕ → Units) (m : MemoryMap) (a : ℕ) (o : Option Rest) (rest : Rest) → o ≡ Some rest
+    → IsTextRestBy expand m a o
     → rest.nothing ≡ fault_of (meaning_at expand m a)
 rest_fault expand m a o rest is h =
     let k = subst (IsTextRestBy expand m a) is h in

@@ -1,4 +1,5 @@
-// The faults of the texts of all abbreviations, in one walk from the story's end to its start: they may share their ends.
+// The faults of the texts of all abbreviations, in one walk from the story's end to its start: they may share their
+// ends.
 
 ghost use Rattle.std.specs.Prelude.{◌≡◌, ◌≤◌, ◌<◌, ◌+◌, ◌-◌, ◌*◌, ◌%◌, ◌^◌, length, IfSome};
 ghost use Rattle.zk_text.specs.Meaning.{meaning_at, no_abbreviation};

@@ -186,8 +186,8 @@ impl Play {
         }
     }
 
-    /// Lists the story's file in parts: goes on with the listing of a number, until so many steps are used up, or begins
-    /// it where it is not begun, and says whether more is to come. Where it is refused there is no listing.
+    /// Lists the story's file in parts: goes on with the listing of a number, until so many steps are used up, or
+    /// begins it where it is not begun, and says whether more is to come. Where it is refused there is no listing.
     pub fn list_for(&mut self, alloc: Global, number: u32, steps: u32) -> Result<bool, Refusal>
         ensures { IsListedFor number self.old self.new result }
     {

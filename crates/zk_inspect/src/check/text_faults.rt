@@ -70,7 +70,8 @@ fn text_fails(
     ensures { result ≡ text_fails memory.now marks.now kind address }
 {
     (marks.printed.has(address) && text_has(memory, sweep, kind, address))
-        || (marks.abbreviations.is_marked(address) && abbreviation_has(memory, sweep, kind, address))
+        || (marks.abbreviations.is_marked(address)
+            && abbreviation_has(memory, sweep, kind, address))
         || (is_of(kind, Fault::TextPastEnd) && marks.unread.is_marked(address))
 }
 

@@ -25,7 +25,7 @@ loop-address-preserved c = elim c.if-has.branch [
 pub returns-clause-exact : goal.returns-clause-exact
 returns-clause-exact c =
     let s = c.loop-address.invariant.size in
-    let e = c.requires in
+    let e = c.requires.size in
     let t = c.loop-address-test.false in
     let l = c.len-address-end.ensures.value in
     closing_ends (IsNextText c.args.memory.now) c.args.marks.now c.loop-address.marks c.loop-address.address

@@ -21,7 +21,7 @@ returns-then-is_marked g c =
     let there : list_of m c.args.object ≡ Ok c.in-Ok.address = search rules in
     let same = with_list m c.args.object c.in-Ok.address there in
     let is = has_marked m c.in-Ok.address c.args.lists.now c.has_bytes.ensures c.requires
-        (sym c.is_marked.ensures ∙ c.if-is_marked.true) in
+    (sym c.is_marked.ensures ∙ c.if-is_marked.true) in
     rw (facts_of_list c.args.object _ _ same is) c.list_properties_at.ensures
 
 pub returns-else-is_marked : goal.returns-else-is_marked
@@ -29,8 +29,8 @@ returns-else-is_marked g c =
     let m = c.args.memory.now in
     let there : list_of m c.args.object ≡ Ok c.in-Ok.address = search rules in
     let none = with_list m c.args.object c.in-Ok.address there
-        ∙ lacks_unmarked m c.in-Ok.address c.args.lists.now c.has_bytes.ensures c.requires
-        (sym c.is_marked.ensures ∙ c.if-is_marked.false) in
+    ∙ lacks_unmarked m c.in-Ok.address c.args.lists.now c.has_bytes.ensures c.requires
+    (sym c.is_marked.ensures ∙ c.if-is_marked.false) in
     rw (facts_of_fault c.args.object _ _ none) c.write.ensures
 
 pub returns-in-Err : goal.returns-in-Err
