@@ -29,9 +29,6 @@ const NEW_LINE = 10;
 const RETURN = 13;
 const QUESTION_MARK = 63;
 
-/** The byte order mark, which some editors write at the start of a file. */
-const MARK = [0xef, 0xbb, 0xbf];
-
 /** A line of the input has too many bytes. */
 class TooLong extends Error {}
 
@@ -67,35 +64,12 @@ function* wholeLines(bytes) {
 }
 
 /**
- * The parts of an input without the byte order mark that this may begin with.
- * @param {Iterable<Uint8Array>} parts
- */
-function* unmarked(parts) {
-    /** @type {Uint8Array | null} */
-    let front = new Uint8Array(0);
-    for (const part of parts) {
-        /** @type {Uint8Array} */
-        const bytes = front ? joined(front, part) : part;
-        const hasMark = MARK.every((byte, i) => bytes[i] === byte);
-        const mayHave = bytes.length < MARK.length && bytes.every((byte, i) => byte === MARK[i]);
-        if (front && mayHave) {
-            front = bytes;
-        } else {
-            yield front && hasMark ? bytes.subarray(MARK.length) : bytes;
-            front = null;
-        }
-    }
-    if (front)
-        yield front;
-}
-
-/**
  * The lines of an input that comes in parts.
  * @param {Iterable<Uint8Array>} parts
  */
 export function* linesOf(parts) {
     let rest = new Uint8Array(0);
-    for (const part of unmarked(parts))
+    for (const part of parts)
         rest = yield* wholeLines(joined(rest, part));
     if (rest.length > 0)
         yield rest;
