@@ -10,6 +10,7 @@ texts stand in sessions.cases. Each other one is a method here, which stops wher
 from __future__ import annotations
 
 import base64
+import fcntl
 import itertools
 import json
 import os
@@ -20,11 +21,13 @@ import shlex
 import shutil
 import signal
 from collections.abc import Iterable
+from concurrent.futures import ThreadPoolExecutor
 from pathlib import Path
+from subprocess import PIPE, Popen
 from typing import Any
 
 from case_files import Book, Written
-from cases import ANY, LeftOut, Wanted, begins, has, run_cases, same, shown, shown_up_to, text_of
+from cases import ANY, SECONDS, LeftOut, Wanted, begins, has, run_cases, same, shown, shown_up_to, text_of
 from ending import end_with
 
 BOOK = Book(Path(__file__).with_name("sessions.cases"))
@@ -69,6 +72,12 @@ class Asked(Written):
             shutil.rmtree(self.folder / "own")
         same(made, self.read("out.html"))
         (self.folder / "out.html").unlink(missing_ok=True)
+
+    def beside(self, words: str) -> Path:
+        """Has what words write killed while it writes, and answers the file that is left beside."""
+        self.run(words, preexec_fn=self.within(10)["preexec_fn"])
+        (name,) = [it for it in self.new() if it.startswith(".zkit-")]
+        return self.folder / name
 
     def at_terminal(self, words: str, turns: Iterable[tuple[str, str]] = (), **variables: str) -> str:
         """All that is shown at a terminal, by words of a shell, where a line is typed after each of some texts."""
@@ -213,6 +222,53 @@ class Sessions(Asked):
         told = "zkit: full: File too large (os error 27)\nzkit: division by zero\nzkit: fault 8 at 00044\n"
         self.check((2, "", told), "play --record full falls.z5", b"x\n", preexec_fn=limit)
         same(head.encode(), self.read("full"))
+
+    # ---- coverage of plays that end side by side
+
+    def coverage_of_plays_at_once(self) -> None:
+        """Each play adds all that it ran to a coverage file, as plays one after another do."""
+        typed = [b"look\n", b"north\n", b"inventory\n", b"restart\ny\n", b"quit\ny\n", b"examine lamp\n"]
+        for line in typed:
+            self.check((0, ANY, ""), "play --cover one lighthouse.z5", line)
+        for _ in range(3):
+            with ThreadPoolExecutor(len(typed)) as plays:
+                ended = list(plays.map(lambda line: self.run("play --cover all lighthouse.z5", line), typed))
+            same([(0, "")] * len(typed), [(status, told) for status, _, told in ended])
+            same(self.read("one"), self.read("all"))
+            same(["all", "one"], self.new())
+            (self.folder / "all").unlink()
+
+    def coverage_waits_for_another_play(self) -> None:
+        """A play adds what it ran to what its coverage file has once another play has written that, or was killed."""
+        words, ran = "play --cover ran hello.z3", BOOK.texts["of_hello"] + b"00040\n00043\n00044\n"
+        beside = self.beside(words)
+        self.check(shown("hi\n"), words)
+        same((ran, ["ran"]), (self.read("ran"), self.new()))
+        other = "zkit: ran: it is of another story, or of another build of this one\nzkit: read failed\n"
+        no_list = "zkit: ran: not a coverage file\nzkit: read failed\n"
+        for before, status, told, after in (
+            (BOOK.texts["of_hello"] + b"00041\n", 0, "", ran.replace(b"00043", b"00041\n00043")),
+            (b"story 000000 03a1 70\n", 4, other, b"story 000000 03a1 70\n"),
+            (b"story\n", 4, no_list, b"story\n"),
+        ):
+            self.write({"ran": ran, beside.name: b""})
+            command = [*self.command, *words.split()]
+            with open(beside, "rb") as held:
+                fcntl.flock(held, fcntl.LOCK_EX)
+                playing = Popen(command, cwd=self.folder, stdout=PIPE, stderr=PIPE, text=True)
+                assert playing.stdout
+                same("hi\n", shown_up_to(playing.stdout.fileno(), "hi\n"))
+                self.write({"ran": before})
+            came = playing.communicate(timeout=SECONDS)[1]
+            same((status, told, after, ["ran"]), (playing.returncode, came, self.read("ran"), self.new()))
+
+    def reports_at_once(self) -> None:
+        """A report is not written while another zkit writes to its file."""
+        self.check(shown("hi\n"), "play --cover ran hello.z3")
+        words = "cover --html page ran hello.z3"
+        with open(self.beside(words), "rb") as held:
+            fcntl.flock(held, fcntl.LOCK_EX)
+            self.check((4, ANY, "zkit: page: another zkit is writing to it\nzkit: write failed\n"), words)
 
     # ---- an archive
 

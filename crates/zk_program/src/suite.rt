@@ -754,7 +754,7 @@ fn test_paths(rt: &HostRuntime, paths: &[&str], suite: &mut Suite<'_>) -> io::Re
     }
     println!(rt; "{passed} passed, {failed} failed")?;
     let status = suite_status(passed, failed, files.all);
-    match &suite.cover {
+    match &mut suite.cover {
         Some(cover) => Ok(cover.write(rt, status)),
         None => Ok(status),
     }
