@@ -20,6 +20,7 @@ import resource
 import shlex
 import shutil
 import signal
+import subprocess
 from collections.abc import Iterable
 from concurrent.futures import ThreadPoolExecutor
 from pathlib import Path
@@ -272,24 +273,53 @@ class Sessions(Asked):
 
     # ---- an archive
 
-    def folders_with_other_names(self) -> None:
-        """Names that are no text are left out, and told; so is what is no regular file."""
-        self.write({"some/a.z3": FILES["hello.z3"], "some/b/c.z3": FILES["hello.z3"]})
+    def folders_with_pipes(self) -> None:
+        """What is no regular file is left out, and told."""
+        self.write({"some/a.z3": FILES["hello.z3"]})
         os.mkfifo(self.folder / "some/pipe")
-        ifids = "".join(f"some/{name}.z3:\n[ifid]\nZCODE-0-000000\n" for name in ("a", "b/c"))
         told = "zkit: some/pipe: no regular file, and left out\n"
-        self.check((0, ifids, told), "info --ifid --recursive some")
-        for name in (b"\xff.z3", b"\xfe.z3"):
-            try:
-                with open(os.fsencode(self.folder / "some/b") + b"/" + name, "wb"):
-                    pass
-            except OSError as error:
-                raise LeftOut("the folders here have no names but texts") from error
-        told = "zkit: some/b: 2 names in it are no text (UTF-8), and left out\n" + told + "zkit: read failed\n"
-        self.check((4, ifids, told), "info --ifid --recursive some")
-        os.unlink(os.fsencode(self.folder / "some/b") + b"/\xff.z3")
-        told = told.replace("2 names in it are", "1 name in it is")
-        self.check((4, ifids, told), "info --ifid --recursive some")
+        self.check((0, "some/a.z3:\n[ifid]\nZCODE-0-000000\n", told), "info --ifid --recursive some")
+
+    def with_other_names(self) -> bytes:
+        """A folder with stories of names that are no text, one of them in a folder of such a name: answers that."""
+        self.write({"some/a.z3": FILES["hello.z3"], "some/z.z3": FILES["hello.z3"]})
+        within = os.fsencode(self.folder / "some") + b"/b\xff"
+        try:
+            os.mkdir(within)
+            for path in (within + b"/c.z3", within + b".z3", within[:-1] + b"\xfe.z3"):
+                with open(path, "wb") as file:
+                    file.write(FILES["hello.z3"])
+        except OSError as error:
+            raise LeftOut("the folders here have no names but texts") from error
+        return within
+
+    def folders_with_other_names(self) -> None:
+        """Each name that is no text is listed as unread, in its place, and what is below it is not."""
+        self.with_other_names()
+        why, ifid = "name not UTF-8, not opened or searched", "[ifid]\nZCODE-0-000000\n"
+        paths = ["some/b?.z3", "some/b?", "some/b?.z3"]
+        told = "".join(f"zkit: {path}: its name is no text (UTF-8)\nzkit: read failed\n" for path in paths)
+        unread = "".join(f"{path} ({why}): read failed\n" for path in paths)
+        self.check((4, f"some/a.z3:\n{ifid}{unread}some/z.z3:\n{ifid}", told), "info --ifid --recursive some")
+        first, last = (f"some/{it}.z3\tifid\tZCODE-0-000000\n" for it in "az")
+        rows = "".join(f"{path}\tunread\t{why}\n" for path in paths)
+        self.check((4, f"{first}{rows}{last}", told), "info --ifid --rows --recursive some")
+        _, objects, _ = self.run("info --ifid --json --recursive some")
+        wanted = [(path, why) for path in paths]
+        same(wanted, [(it["path"], it["unread"]) for it in map(json.loads, objects.splitlines()) if "unread" in it])
+        status, listed, _ = self.run("check --summary --recursive some")
+        same((6, ["total 2 findings in 2 of 2 stories", "total 3 files unread"]), (status, listed.splitlines()[-2:]))
+        failed = "".join(f"FAILED {path}: {path}: its name is no text (UTF-8)\n" for path in paths)
+        self.check((1, f"{failed}0 passed, 3 failed\n", ""), "test some")
+
+    def ways_round_other_names(self) -> None:
+        """A link with a plain name leads to a folder whose name is no text; so does a shell that stands in it."""
+        within = self.with_other_names()
+        os.symlink(within, os.fsencode(self.folder) + b"/plain")
+        ifid = "[ifid]\nZCODE-0-000000\n"
+        self.check(shown(f"plain/c.z3:\n{ifid}"), "info --ifid --recursive plain")
+        done = subprocess.run([*self.command, *"info --ifid --recursive .".split()], cwd=within, capture_output=True)
+        same((0, f"./c.z3:\n{ifid}"), (done.returncode, text_of(done.stdout)))
 
     def pairs_of_sections(self) -> None:
         """Two sections of one object are those that each has alone."""
