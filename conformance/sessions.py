@@ -271,6 +271,30 @@ class Sessions(Asked):
             fcntl.flock(held, fcntl.LOCK_EX)
             self.check((4, ANY, "zkit: page: another zkit is writing to it\nzkit: write failed\n"), words)
 
+    # ---- reports on the source
+
+    def lines_end_with_a_return(self) -> None:
+        """A page has no carriage return of a source whose lines end with one."""
+        self.write({"ran": BOOK.texts["ran_whole"], "src/Cave": b"a\r\nb\r\n"})
+        self.check((0, ANY, ""), "cover --names whole.dbg --source src --html page ran whole.z3")
+        same((True, False), (b"b" in (self.read("page") or b""), b"\r" in (self.read("page") or b"")))
+
+    def routines_of_one_name(self) -> None:
+        """A trace file tells routines of one name apart by their addresses."""
+        twice = FILES["whole.dbg"].replace(b"<identifier>Called<", b"<identifier>Never<")
+        self.write({"ran": BOOK.texts["ran_whole"], "twice.dbg": twice})
+        self.check((0, ANY, ""), "cover --names twice.dbg --lcov out ran whole.z3")
+        records = "FN:2,Never@00046\nFNDA:0,Never@00046\nFN:4,Never@0004a\nFNDA:1,Never@0004a\n"
+        same(has(records), text_of(self.read("out")))
+
+    def arrays_of_no_source(self) -> None:
+        """An array of a file that is not among the sources is a wrong place, as a routine of one is."""
+        place = BOOK.texts["file_0"].replace(b"<file-index>0", b"<file-index>%d") + b"3" + BOOK.texts["place_end"]
+        element = b"<bytes-per-element>2</bytes-per-element>"
+        for index, status in ((0, 6), (7, 4)):
+            self.write({"placed.dbg": FILES["shelf.dbg"].replace(element, element + place % index)})
+            same(status, self.run("check --names placed.dbg shelf.z5")[0])
+
     # ---- an archive
 
     def folders_with_pipes(self) -> None:
