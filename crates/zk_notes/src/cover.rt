@@ -128,8 +128,11 @@ fn write_ran<P: LineWriter>(out: &mut P, instructions: Share, routines: Share)
 fn write_instructions<P: LineWriter>(out: &mut P, instructions: Share)
     ensures { P.wrote out.old out.new (instructions_line instructions.ran instructions.listed) }
 {
-    out.write(b"ran: ");
-    write_share(out, instructions, b" instructions\n");
+    let mut ran = Buffer::new();
+    let mut listed = Buffer::new();
+    let ran = ran.format(instructions.ran).as_bytes();
+    let listed = listed.format(instructions.listed).as_bytes();
+    write_texts(out, &[b"ran: ", ran, b" of ", listed, b" instructions\n"]);
 }
 
 /// The addresses that ran, and those of the instructions and the routines that are listed.
