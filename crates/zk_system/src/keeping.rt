@@ -224,10 +224,15 @@ pub fn hold<'a>(rt: &HostRuntime, path: &'a str) -> Option<HeldFile<'a>> {
 
 impl HeldFile<'_> {
     /// Keeps bytes in the file, as `keep` does.
-    pub fn keep(mut self, rt: &HostRuntime, bytes: &[u8]) -> bool {
-        let beside = self.beside.as_str();
-        let kept = self.place.replace(rt, beside, &mut self.file, bytes);
-        tell_kept(rt, self.path, &kept, Kept::List)
+    pub fn keep(self, rt: &HostRuntime, bytes: &[u8]) -> bool {
+        let HeldFile {
+            path,
+            place,
+            beside,
+            mut file,
+        } = self;
+        let kept = place.replace(rt, beside.as_str(), &mut file, bytes);
+        tell_kept(rt, path, &kept, Kept::List)
     }
 
     /// Leaves the file as it is.
