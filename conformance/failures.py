@@ -113,10 +113,11 @@ def is_cut_off(plan: Plan, came: Came, whole: Came) -> bool:
 
 
 def is_unread(plan: Plan, came: Came) -> bool:
-    """Whether a run ended for lack of memory, and says so in the facts of its story."""
+    """Whether a run ended for lack of memory, and says so in the facts of its story, or in the counts of findings."""
     row = f"{plan.story}\tunread\tout of memory\n"
     line = f'{{"form":1,"path":"{plan.story}","unread":"out of memory"}}\n'
-    return came.status == 5 and came.told == NO_MEMORY and came.shown in (row, line)
+    counts = "total 0 findings in 0 of 0 stories\ntotal 1 file unread\n"
+    return came.status == 5 and came.told == NO_MEMORY and came.shown in (row, line, counts)
 
 
 def parts_of(shown: str, names: Sequence[str]) -> dict[str, str]:

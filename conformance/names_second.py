@@ -208,7 +208,8 @@ class Report:
         routines = f"{share(map(self.has_run, self.named.routines))} routines"
         texts = f"{share(at in self.ran for at in self.listing.texts)} texts"
         told.append(f"all: {share(self.places.values())} lines, {routines}, {texts}")
-        return [*told, self.listing.last]
+        # its routines are those of the listing, which knows no start
+        return [*told, self.listing.last.partition(",")[0]]
 
     def page_lines(self, file: int, source: str) -> dict[int, tuple[str, str]]:
         """The lines of a source file on a page, each with its sign."""

@@ -10,6 +10,7 @@ texts stand in sessions.cases. Each other one is a method here, which stops wher
 from __future__ import annotations
 
 import base64
+import fcntl
 import itertools
 import json
 import os
@@ -19,12 +20,15 @@ import resource
 import shlex
 import shutil
 import signal
+import subprocess
 from collections.abc import Iterable
+from concurrent.futures import ThreadPoolExecutor
 from pathlib import Path
+from subprocess import PIPE, Popen
 from typing import Any
 
 from case_files import Book, Written
-from cases import ANY, LeftOut, Wanted, begins, has, run_cases, same, shown, shown_up_to, text_of
+from cases import ANY, SECONDS, LeftOut, Wanted, begins, has, run_cases, same, shown, shown_up_to, text_of
 from ending import end_with
 
 BOOK = Book(Path(__file__).with_name("sessions.cases"))
@@ -69,6 +73,12 @@ class Asked(Written):
             shutil.rmtree(self.folder / "own")
         same(made, self.read("out.html"))
         (self.folder / "out.html").unlink(missing_ok=True)
+
+    def beside(self, words: str) -> Path:
+        """Has what words write killed while it writes, and answers the file that is left beside."""
+        self.run(words, preexec_fn=self.within(10)["preexec_fn"])
+        (name,) = [it for it in self.new() if it.startswith(".zkit-")]
+        return self.folder / name
 
     def at_terminal(self, words: str, turns: Iterable[tuple[str, str]] = (), **variables: str) -> str:
         """All that is shown at a terminal, by words of a shell, where a line is typed after each of some texts."""
@@ -214,26 +224,126 @@ class Sessions(Asked):
         self.check((2, "", told), "play --record full falls.z5", b"x\n", preexec_fn=limit)
         same(head.encode(), self.read("full"))
 
+    # ---- coverage of plays that end side by side
+
+    def coverage_of_plays_at_once(self) -> None:
+        """Each play adds all that it ran to a coverage file, as plays one after another do."""
+        typed = [b"look\n", b"north\n", b"inventory\n", b"restart\ny\n", b"quit\ny\n", b"examine lamp\n"]
+        for line in typed:
+            self.check((0, ANY, ""), "play --cover one lighthouse.z5", line)
+        for _ in range(3):
+            with ThreadPoolExecutor(len(typed)) as plays:
+                ended = list(plays.map(lambda line: self.run("play --cover all lighthouse.z5", line), typed))
+            same([(0, "")] * len(typed), [(status, told) for status, _, told in ended])
+            same(self.read("one"), self.read("all"))
+            same(["all", "one"], self.new())
+            (self.folder / "all").unlink()
+
+    def coverage_waits_for_another_play(self) -> None:
+        """A play adds what it ran to what its coverage file has once another play has written that, or was killed."""
+        words, ran = "play --cover ran hello.z3", BOOK.texts["of_hello"] + b"00040\n00043\n00044\n"
+        beside = self.beside(words)
+        self.check(shown("hi\n"), words)
+        same((ran, ["ran"]), (self.read("ran"), self.new()))
+        other = "zkit: ran: it is of another story, or of another build of this one\nzkit: read failed\n"
+        no_list = "zkit: ran: not a coverage file\nzkit: read failed\n"
+        for before, status, told, after in (
+            (BOOK.texts["of_hello"] + b"00041\n", 0, "", ran.replace(b"00043", b"00041\n00043")),
+            (b"story 000000 03a1 70\n", 4, other, b"story 000000 03a1 70\n"),
+            (b"story\n", 4, no_list, b"story\n"),
+        ):
+            self.write({"ran": ran, beside.name: b""})
+            command = [*self.command, *words.split()]
+            with open(beside, "rb") as held:
+                fcntl.flock(held, fcntl.LOCK_EX)
+                playing = Popen(command, cwd=self.folder, stdout=PIPE, stderr=PIPE, text=True)
+                assert playing.stdout
+                same("hi\n", shown_up_to(playing.stdout.fileno(), "hi\n"))
+                self.write({"ran": before})
+            came = playing.communicate(timeout=SECONDS)[1]
+            same((status, told, after, ["ran"]), (playing.returncode, came, self.read("ran"), self.new()))
+
+    def reports_at_once(self) -> None:
+        """A report is not written while another zkit writes to its file."""
+        self.check(shown("hi\n"), "play --cover ran hello.z3")
+        words = "cover --html page ran hello.z3"
+        with open(self.beside(words), "rb") as held:
+            fcntl.flock(held, fcntl.LOCK_EX)
+            self.check((4, ANY, "zkit: page: another zkit is writing to it\nzkit: write failed\n"), words)
+
+    # ---- reports on the source
+
+    def lines_end_with_a_return(self) -> None:
+        """A page has no carriage return of a source whose lines end with one."""
+        self.write({"ran": BOOK.texts["ran_whole"], "src/Cave": b"a\r\nb\r\n"})
+        self.check((0, ANY, ""), "cover --names whole.dbg --source src --html page ran whole.z3")
+        same((True, False), (b"b" in (self.read("page") or b""), b"\r" in (self.read("page") or b"")))
+
+    def routines_of_one_name(self) -> None:
+        """A trace file tells routines of one name apart by their addresses."""
+        twice = FILES["whole.dbg"].replace(b"<identifier>Called<", b"<identifier>Never<")
+        self.write({"ran": BOOK.texts["ran_whole"], "twice.dbg": twice})
+        self.check((0, ANY, ""), "cover --names twice.dbg --lcov out ran whole.z3")
+        records = "FN:2,Never@00046\nFNDA:0,Never@00046\nFN:4,Never@0004a\nFNDA:1,Never@0004a\n"
+        same(has(records), text_of(self.read("out")))
+
+    def arrays_of_no_source(self) -> None:
+        """An array of a file that is not among the sources is a wrong place, as a routine of one is."""
+        place = BOOK.texts["file_0"].replace(b"<file-index>0", b"<file-index>%d") + b"3" + BOOK.texts["place_end"]
+        element = b"<bytes-per-element>2</bytes-per-element>"
+        for index, status in ((0, 6), (7, 4)):
+            self.write({"placed.dbg": FILES["shelf.dbg"].replace(element, element + place % index)})
+            same(status, self.run("check --names placed.dbg shelf.z5")[0])
+
     # ---- an archive
 
-    def folders_with_other_names(self) -> None:
-        """Names that are no text are left out, and told; so is what is no regular file."""
-        self.write({"some/a.z3": FILES["hello.z3"], "some/b/c.z3": FILES["hello.z3"]})
+    def folders_with_pipes(self) -> None:
+        """What is no regular file is left out, and told."""
+        self.write({"some/a.z3": FILES["hello.z3"]})
         os.mkfifo(self.folder / "some/pipe")
-        ifids = "".join(f"some/{name}.z3:\n[ifid]\nZCODE-0-000000\n" for name in ("a", "b/c"))
         told = "zkit: some/pipe: no regular file, and left out\n"
-        self.check((0, ifids, told), "info --ifid --recursive some")
-        for name in (b"\xff.z3", b"\xfe.z3"):
-            try:
-                with open(os.fsencode(self.folder / "some/b") + b"/" + name, "wb"):
-                    pass
-            except OSError as error:
-                raise LeftOut("the folders here have no names but texts") from error
-        told = "zkit: some/b: 2 names in it are no text (UTF-8), and left out\n" + told + "zkit: read failed\n"
-        self.check((4, ifids, told), "info --ifid --recursive some")
-        os.unlink(os.fsencode(self.folder / "some/b") + b"/\xff.z3")
-        told = told.replace("2 names in it are", "1 name in it is")
-        self.check((4, ifids, told), "info --ifid --recursive some")
+        self.check((0, "some/a.z3:\n[ifid]\nZCODE-0-000000\n", told), "info --ifid --recursive some")
+
+    def with_other_names(self) -> bytes:
+        """A folder with stories of names that are no text, one of them in a folder of such a name: answers that."""
+        self.write({"some/a.z3": FILES["hello.z3"], "some/z.z3": FILES["hello.z3"]})
+        within = os.fsencode(self.folder / "some") + b"/b\xff"
+        try:
+            os.mkdir(within)
+            for path in (within + b"/c.z3", within + b".z3", within[:-1] + b"\xfe.z3"):
+                with open(path, "wb") as file:
+                    file.write(FILES["hello.z3"])
+        except OSError as error:
+            raise LeftOut("the folders here have no names but texts") from error
+        return within
+
+    def folders_with_other_names(self) -> None:
+        """Each name that is no text is listed as unread, in its place, and what is below it is not."""
+        self.with_other_names()
+        why, ifid = "name not UTF-8, not opened or searched", "[ifid]\nZCODE-0-000000\n"
+        paths = ["some/b?.z3", "some/b?", "some/b?.z3"]
+        told = "".join(f"zkit: {path}: its name is no text (UTF-8)\nzkit: read failed\n" for path in paths)
+        unread = "".join(f"{path} ({why}): read failed\n" for path in paths)
+        self.check((4, f"some/a.z3:\n{ifid}{unread}some/z.z3:\n{ifid}", told), "info --ifid --recursive some")
+        first, last = (f"some/{it}.z3\tifid\tZCODE-0-000000\n" for it in "az")
+        rows = "".join(f"{path}\tunread\t{why}\n" for path in paths)
+        self.check((4, f"{first}{rows}{last}", told), "info --ifid --rows --recursive some")
+        _, objects, _ = self.run("info --ifid --json --recursive some")
+        wanted = [(path, why) for path in paths]
+        same(wanted, [(it["path"], it["unread"]) for it in map(json.loads, objects.splitlines()) if "unread" in it])
+        status, listed, _ = self.run("check --summary --recursive some")
+        same((6, ["total 2 findings in 2 of 2 stories", "total 3 files unread"]), (status, listed.splitlines()[-2:]))
+        failed = "".join(f"FAILED {path}: {path}: its name is no text (UTF-8)\n" for path in paths)
+        self.check((1, f"{failed}0 passed, 3 failed\n", ""), "test some")
+
+    def ways_round_other_names(self) -> None:
+        """A link with a plain name leads to a folder whose name is no text; so does a shell that stands in it."""
+        within = self.with_other_names()
+        os.symlink(within, os.fsencode(self.folder) + b"/plain")
+        ifid = "[ifid]\nZCODE-0-000000\n"
+        self.check(shown(f"plain/c.z3:\n{ifid}"), "info --ifid --recursive plain")
+        done = subprocess.run([*self.command, *"info --ifid --recursive .".split()], cwd=within, capture_output=True)
+        same((0, f"./c.z3:\n{ifid}"), (done.returncode, text_of(done.stdout)))
 
     def pairs_of_sections(self) -> None:
         """Two sections of one object are those that each has alone."""

@@ -86,6 +86,10 @@ unfoldable pub ran_line : ℕ → ℕ → ℕ → ℕ → List ℕ
 ran_line ran listed entered routines =
     codes "ran: " ++ share_of ran listed (codes " instructions, ") ++ share_of entered routines (codes " routines\n")
 
+-- the line that says how many instructions ran
+abbrev pub instructions_line : ℕ → ℕ → List ℕ
+instructions_line ran listed = codes "ran: " ++ share_of ran listed (codes " instructions\n")
+
 -- and by what is listed
 abbrev pub summary_of : List ℕ → List ℕ → List ℕ → List ℕ
 summary_of covered instructions routines =

@@ -68,15 +68,32 @@ fn add_counts(kinds: &mut [u64], facts: &[Fact])
 /// How many kinds of findings there are.
 const KINDS: usize = NUMBERS.len();
 
+/// Adds the line of files that were not checked, where there are some.
+fn add_unchecked(out: &mut TextBuilder, count: u64, last: &str) {
+    if count > 0 {
+        let noun = if count == 1 { " file " } else { " files " };
+        out.pieces(&[
+            Piece::Text("total "),
+            Piece::Number(count),
+            Piece::Text(noun),
+            Piece::Text(last),
+        ]);
+    }
+}
+
 /// How many findings stories have, by kind. A number that 64 bits don't hold stays at the greatest that they do.
 #[derive(Drop)]
 pub struct Counts {
     /// The findings of each kind, from `C1` on.
     kinds: [u64; KINDS],
-    /// The stories.
+    /// The stories that were checked.
     stories: u64,
     /// The stories with a finding.
     wrong: u64,
+    /// The files that are no stories.
+    refused: u64,
+    /// The files that could not be read.
+    unread: u64,
 }
 
 impl Counts {
@@ -85,11 +102,14 @@ impl Counts {
         ensures kinds { EachIndex result.kinds (λ k. slice_index result.kinds k ≡ 0) }
         ensures stories { result.stories ≡ 0 }
         ensures wrong { result.wrong ≡ 0 }
+        ensures others { (result.refused ≡ 0) × (result.unread ≡ 0) }
     {
         Counts {
             kinds: [0; KINDS],
             stories: 0,
             wrong: 0,
+            refused: 0,
+            unread: 0,
         }
     }
 
@@ -100,19 +120,25 @@ impl Counts {
         ensures stories { self.new.stories ≡ capped (self.old.stories + 1) }
         ensures wrong { self.new.wrong ≡ capped (self.old.wrong
             + (if list_any is_finding facts.now then 1 else 0)) }
+        ensures others { (self.new.refused ≡ self.old.refused) × (self.new.unread ≡ self.old.unread) }
     {
         add_counts(&mut self.kinds, facts);
         self.stories = self.stories.saturating_add(1);
         self.wrong = self.wrong.saturating_add(u64::from(has_finding(facts)));
     }
 
-    /// Adds a story that could not be listed.
-    pub fn add_unlisted(&mut self)
-        ensures kinds { self.new.kinds ≡ self.old.kinds }
-        ensures stories { self.new.stories ≡ capped (self.old.stories + 1) }
-        ensures wrong { self.new.wrong ≡ self.old.wrong }
+    /// Adds a file that is no story.
+    pub fn add_refused(&mut self)
+        ensures { self.new ≡ record self.old { refused = capped (self.old.refused + 1) } }
     {
-        self.stories = self.stories.saturating_add(1);
+        self.refused = self.refused.saturating_add(1);
+    }
+
+    /// Adds a file that could not be read.
+    pub fn add_unread(&mut self)
+        ensures { self.new ≡ record self.old { unread = capped (self.old.unread + 1) } }
+    {
+        self.unread = self.unread.saturating_add(1);
     }
 
     /// How many findings there are.
@@ -167,12 +193,15 @@ impl Counts {
         out.pieces(&line);
     }
 
-    /// The counts as lines: `total C5 3 object links` for each kind that occurs, by its number, and then `total 4
-    /// findings in 2 of 7 stories`, or `total 1 finding in 1 of 1 story`.
+    /// The counts as lines: `total C5 3 object links` for each kind that occurs, by its number, then `total 4 findings
+    /// in 2 of 7 stories`, or `total 1 finding in 1 of 1 story`, and `total 2 files refused` and `total 1 file unread`
+    /// where there are some.
     pub fn text(&self, alloc: Global) -> Result<Vec<u8>, AllocError> {
         let mut out = TextBuilder::new(alloc);
         self.add_kinds(&mut out);
         self.add_total(&mut out);
+        add_unchecked(&mut out, self.refused, "refused\n");
+        add_unchecked(&mut out, self.unread, "unread\n");
         out.finish()
     }
 }

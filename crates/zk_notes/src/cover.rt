@@ -1,12 +1,12 @@
 // Disassemblies with marks at what ran.
 
-ghost use Rattle.std.specs.Prelude.{◌≡◌, ℕ, ◌++◌, is_none, count_by, option_map, IfOk, IfSome};
+ghost use Rattle.std.specs.Prelude.{◌≡◌, ℕ, ◌++◌, is_none, count_by, length, option_map, IfOk, IfSome};
 ghost use Rattle.std.specs.List.{flat_map, list_any};
 ghost use Rattle.std.specs.List.Sorted.{IsNonDecreasing};
 ghost use Rattle.std.specs.Str.Lines.{lines};
 ghost use Rattle.zk_inspect.specs.Lines.{fact_line};
 ghost use Rattle.zk_notes.specs.Marks.{decoded_of, fact_ran, first_above, has_run, instruction_of};
-ghost use Rattle.zk_notes.specs.Marks.{instructions_in, is_below};
+ghost use Rattle.zk_notes.specs.Marks.{instructions_in, instructions_line, is_below};
 ghost use Rattle.zk_notes.specs.Marks.{marked_fact, marked_line, marked_of, ran_line, routine_of, routines_in};
 ghost use Rattle.zk_notes.specs.Marks.{share_of, summary_of, was_entered};
 ghost use Rattle.zk_notes.specs.Union.{IsUnion, address_on, is_foreign, is_no_address, is_of_story};
@@ -124,6 +124,17 @@ fn write_ran<P: LineWriter>(out: &mut P, instructions: Share, routines: Share)
     write_share(out, routines, b" routines\n");
 }
 
+/// Writes the line that says how many instructions ran.
+fn write_instructions<P: LineWriter>(out: &mut P, instructions: Share)
+    ensures { P.wrote out.old out.new (instructions_line instructions.ran instructions.listed) }
+{
+    let mut ran = Buffer::new();
+    let mut listed = Buffer::new();
+    let ran = ran.format(instructions.ran).as_bytes();
+    let listed = listed.format(instructions.listed).as_bytes();
+    write_texts(out, &[b"ran: ", ran, b" of ", listed, b" instructions\n"]);
+}
+
 /// The addresses that ran, and those of the instructions and the routines that are listed.
 #[derive(Clone, Copy, Drop)]
 struct Coverage<'a> {
@@ -218,15 +229,24 @@ impl Coverage<'_> {
         count
     }
 
+    /// How many of the instructions that are listed ran.
+    fn instructions(&self) -> Share
+        ensures listed { result.listed ≡ length self.now.instructions.now }
+        ensures ran { IsNonDecreasing self.now.covered.now → result.ran
+            ≡ count_by (has_run self.now.covered.now) self.now.instructions.now }
+    {
+        Share {
+            ran: self.instructions_run(),
+            listed: self.instructions.len(),
+        }
+    }
+
     /// Writes the line that says how much ran.
     fn write_summary<P: LineWriter>(&self, out: &mut P)
         ensures { IsNonDecreasing self.now.covered.now → P.wrote out.old out.new
             (summary_of self.now.covered.now self.now.instructions.now self.now.routines.now) }
     {
-        let instructions = Share {
-            ran: self.instructions_run(),
-            listed: self.instructions.len(),
-        };
+        let instructions = self.instructions();
         let routines = Share {
             ran: self.routines_entered(),
             listed: self.routines.len(),
@@ -274,6 +294,28 @@ pub fn summary(alloc: Global, facts: &Facts<'_>, covered: &[u32]) -> Result<Vec<
     };
     let mut out = Lines::new(alloc);
     coverage.write_summary(&mut out);
+    out.finish()
+}
+
+/// The line that says how many of the instructions that are listed ran: `ran: 12 of 3984 instructions`. The covered
+/// addresses ascend.
+pub fn instructions_summary(
+    alloc: Global,
+    facts: &Facts<'_>,
+    covered: &[u32],
+) -> Result<Vec<u8>, AllocError>
+    ensures { IfOk result (λ v. IsNonDecreasing covered.now → v.items ≡ instructions_line
+        (count_by (has_run covered.now) (instructions_in facts.now.memory.now facts.now.list.now))
+        (length (instructions_in facts.now.memory.now facts.now.list.now))) }
+{
+    let instructions = instructions_in(alloc, facts)?;
+    let coverage = Coverage {
+        covered,
+        instructions: instructions.as_slice(),
+        routines: &[],
+    };
+    let mut out = Lines::new(alloc);
+    write_instructions(&mut out, coverage.instructions());
     out.finish()
 }
 

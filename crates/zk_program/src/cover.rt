@@ -2,6 +2,7 @@
 
 ghost use Rattle.std.specs.Prelude.{◌≡◌, ◌<◌, ◌^◌, ◌++◌, length, IfOk, MatchOption, OnOk};
 ghost use Rattle.zk_program.specs.Covers.{HasCoverage, HasNoCoverage, address_line, are_within, marked_line};
+ghost use Rattle.zk_fast.specs.Covers.{Covers};
 ghost use Rattle.zk_program.specs.Covers.{text_of_cover};
 
 use crate::exit::Exit;
@@ -12,7 +13,7 @@ use zk_fast::places::{Cover, Places};
 use zk_mem::memory::Memory;
 use zk_notes::cover::{addresses_in, story_line, story_of};
 use zk_system::files::{MOST_TEXT, read_whole};
-use zk_system::keeping::{Kept, keep};
+use zk_system::keeping::hold;
 use zk_system::shown::Shown;
 use zk_term::writing::{hex_digits_of, zeros_before};
 use zk_vm::stop::Stop;
@@ -85,38 +86,40 @@ fn are_within(addresses: &[u32], length: u32) -> bool
     }
 }
 
-/// Sees that the line of a coverage file is that of a story, or answers the program's status, where it is told that it
-/// is not.
-fn see_line(rt: &HostRuntime, path: &str, line: &[u8], memory: &Memory) -> Result<(), u8> {
+/// The line of a story, or the program's status, where it is told that there is no memory for it.
+fn line_of(rt: &HostRuntime, memory: &Memory) -> Result<Vec<u8>, u8> {
     match story_line(rt.alloc(), memory) {
-        Ok(wanted) if wanted.as_slice() == line => Ok(()),
-        Ok(_) => {
-            let reason = "it is of another story, or of another build of this one";
-            Err(refuse(rt, path, reason))
-        }
+        Ok(line) => Ok(line),
         Err(_) => Err(out_of_memory(rt)),
     }
 }
 
+/// Sees that the line of a coverage file is that of a story, or answers the program's status, where it is told that it
+/// is not.
+fn see_line(rt: &HostRuntime, path: &str, line: &[u8], story: &[u8]) -> Result<(), u8> {
+    if line == story {
+        return Ok(());
+    }
+    let reason = "it is of another story, or of another build of this one";
+    Err(refuse(rt, path, reason))
+}
+
 impl Covered<'_> {
-    /// Sees that this is of a story, or answers the program's status, where it is told that it is not.
-    pub fn see_story(&self, rt: &HostRuntime, memory: &Memory) -> Result<(), u8> {
-        see_line(rt, self.path, self.story.as_bytes(), memory)?;
-        if !are_within(self.addresses.as_slice(), memory.len()) {
+    /// Sees that this is of the story of a line and a length, or answers the program's status, where it is told that it
+    /// is not.
+    fn see_line(&self, rt: &HostRuntime, story: &[u8], length: u32) -> Result<(), u8> {
+        see_line(rt, self.path, self.story.as_bytes(), story)?;
+        if !are_within(self.addresses.as_slice(), length) {
             return Err(refuse(rt, self.path, NO_LIST));
         }
         Ok(())
     }
-}
 
-/// What a coverage file has of a story: nothing where there is no file.
-fn covered_before(rt: &HostRuntime, path: &str, memory: &Memory) -> Result<Vec<u32>, u8> {
-    if !fs::exists(rt, path).unwrap_or(true) {
-        return Ok(Vec::new(rt.alloc()));
+    /// Sees that this is of a story, or answers the program's status, where it is told that it is not.
+    pub fn see_story(&self, rt: &HostRuntime, memory: &Memory) -> Result<(), u8> {
+        let story = line_of(rt, memory)?;
+        self.see_line(rt, story.as_slice(), memory.len())
     }
-    let covered = covered_in(rt, path)?;
-    covered.see_story(rt, memory)?;
-    Ok(covered.addresses)
 }
 
 /// Adds the line of an address: five hexadecimal digits at least.
@@ -155,6 +158,30 @@ pub fn cover_text(alloc: Global, story: &[u8], marks: &[bool]) -> Result<Vec<u8>
     Ok(text)
 }
 
+/// Notes addresses, as far as they are below the bound.
+fn note_all(cover: &mut Cover, addresses: &[u32])
+    ensures { Covers cover.old cover.new addresses.now }
+{
+    for address in addresses {
+        cover.note(*address);
+    }
+}
+
+/// The text of a coverage file with what was noted beside the addresses that it has.
+pub fn union_text(
+    alloc: Global,
+    story: &[u8],
+    cover: &mut Cover,
+    addresses: &[u32],
+) -> Result<Vec<u8>, AllocError>
+    ensures both { Covers cover.old cover.new addresses.now }
+    ensures text { length cover.new < 2 ^ 32
+        → IfOk result (λ v. v.items ≡ text_of_cover story.now cover.new) }
+{
+    note_all(cover, addresses);
+    cover_text(alloc, story, cover.marks())
+}
+
 /// The file that gets the addresses of the instructions that a play carries out, beside those that it has.
 #[derive(Drop)]
 pub struct CoverFile<'a> {
@@ -165,35 +192,60 @@ pub struct CoverFile<'a> {
 }
 
 impl<'a> CoverFile<'a> {
-    /// The file at a path for a play of a story, with what it has; or the program's status, where it is told why that
-    /// is not had.
+    /// The file at a path for a play of a story; or the program's status, where it is told why what it has is not
+    /// taken.
     pub fn read(rt: &HostRuntime, path: &'a str, memory: &Memory) -> Result<CoverFile<'a>, u8> {
-        let before = covered_before(rt, path, memory)?;
-        let alloc = rt.alloc();
-        let (Ok(story), Ok(mut cover)) = (
-            story_line(alloc, memory),
-            Cover::new(alloc, memory.len() as usize),
-        ) else {
+        let story = line_of(rt, memory)?;
+        let Ok(cover) = Cover::new(rt.alloc(), memory.len() as usize) else {
             return Err(out_of_memory(rt));
         };
-        for address in &before {
-            cover.note(*address);
+        let file = CoverFile { path, story, cover };
+        file.addresses(rt)?;
+        Ok(file)
+    }
+
+    /// The addresses that the file has, none where it is not there; or the program's status, where it is told why they
+    /// are not had.
+    fn addresses(&self, rt: &HostRuntime) -> Result<Vec<u32>, u8> {
+        if !fs::exists(rt, self.path).unwrap_or(true) {
+            return Ok(Vec::new(rt.alloc()));
         }
-        Ok(CoverFile { path, story, cover })
+        let covered = covered_in(rt, self.path)?;
+        covered.see_line(rt, self.story.as_slice(), self.cover.marks().len() as u32)?;
+        Ok(covered.addresses)
     }
 
     /// Sees that the file is of a story too, or answers the program's status, where it is told that it is not.
     pub fn see_story(&self, rt: &HostRuntime, memory: &Memory) -> Result<(), u8> {
-        see_line(rt, self.path, self.story.as_slice(), memory)
+        let story = line_of(rt, memory)?;
+        see_line(rt, self.path, self.story.as_slice(), story.as_slice())
     }
 
-    /// Writes all that was noted in place of what the file had, and answers the program's status after a play that
-    /// ended with one.
-    pub fn write(&self, rt: &HostRuntime, status: u8) -> u8 {
-        let Ok(list) = cover_text(rt.alloc(), self.story.as_slice(), self.cover.marks()) else {
-            return out_of_memory(rt);
+    /// The text of the file with what was noted beside what it has by now; or the program's status, where it is told
+    /// why that is not had.
+    fn text(&mut self, rt: &HostRuntime) -> Result<Vec<u8>, u8> {
+        let had = self.addresses(rt)?;
+        let story = self.story.as_slice();
+        match union_text(rt.alloc(), story, &mut self.cover, had.as_slice()) {
+            Ok(text) => Ok(text),
+            Err(_) => Err(out_of_memory(rt)),
+        }
+    }
+
+    /// Adds all that was noted to what the file has once no other play writes to it, and answers the program's status
+    /// after a play that ended with one.
+    pub fn write(&mut self, rt: &HostRuntime, status: u8) -> u8 {
+        let Some(held) = hold(rt, self.path) else {
+            return tell_last_line(rt, &Exit::Stopped(Stop::Write));
         };
-        if keep(rt, self.path, list.as_slice(), Kept::List) {
+        let text = match self.text(rt) {
+            Ok(text) => text,
+            Err(refused) => {
+                held.let_go(rt);
+                return refused;
+            }
+        };
+        if held.keep(rt, text.as_slice()) {
             return status;
         }
         tell_last_line(rt, &Exit::Stopped(Stop::Write))

@@ -19,7 +19,9 @@ use zk_facts::outcome::Facts;
 use zk_inspect::section::Section;
 use zk_mem::memory::Memory;
 use zk_names::names::Names;
-use zk_notes::cover::{instructions_in, routines_in, summary as listed_summary};
+use zk_notes::cover::{
+    instructions_in, instructions_summary, routines_in, summary as listed_summary,
+};
 use zk_notes::listed_texts::{ListedText, texts_in};
 use zk_system::keeping::{Kept, keep};
 use zk_system::same_file::is_same_file;
@@ -62,17 +64,22 @@ fn read_covers<'a>(rt: &HostRuntime, paths: &[&'a str]) -> Result<Vec<Covered<'a
     Ok(files)
 }
 
-/// What ran of a listing, with the texts that lie apart from code.
+/// What ran of a listing, with the texts that lie apart from code. Where it has names, these tell its routines.
 fn listed_by(
     alloc: Global,
     facts: &Facts<'_>,
     strings: Vec<ListedText>,
     covered: Vec<u32>,
+    is_named: bool,
 ) -> Result<Listed, AllocError> {
     let instructions = instructions_in(alloc, facts)?;
     let routines = routines_in(alloc, facts.list)?;
     let texts = texts_in(alloc, facts)?;
-    let last = listed_summary(alloc, facts, covered.as_slice())?;
+    let last = if is_named {
+        instructions_summary(alloc, facts, covered.as_slice())?
+    } else {
+        listed_summary(alloc, facts, covered.as_slice())?
+    };
     Ok(Listed {
         covered,
         instructions,
@@ -301,7 +308,7 @@ fn report_on(
     see_covers(rt, files.as_slice(), facts.memory)?;
     see_named(rt, options.names, names.as_ref(), facts.memory)?;
     let strings = strings_in(rt, story, covered.as_slice())?;
-    let Ok(listed) = listed_by(rt.alloc(), &facts, strings, covered) else {
+    let Ok(listed) = listed_by(rt.alloc(), &facts, strings, covered, names.is_some()) else {
         return Err(out_of_memory(rt));
     };
     report_found(rt, story, &listed, names.as_ref(), folders, options)

@@ -22,6 +22,7 @@ use zk_facts::rows::add_rows;
 use zk_inspect::fact::Fact;
 use zk_mem::memory::Memory;
 use zk_mem::story::OpenError;
+use zk_system::reason::is_of_no_text;
 use zk_term::io_device::IoDevice;
 use zk_term::target::{Failed, write_all};
 use zk_vm::stop::Stop;
@@ -104,6 +105,9 @@ fn why_refused(alloc: Global, looks: Looks, exit: &Exit) -> Result<String, Alloc
     }
 }
 
+/// What is told of a file whose name is no text.
+pub const NOT_OPENED: &str = "name not UTF-8, not opened or searched";
+
 /// Why a look found nothing.
 fn nothing_by<'a>(exit: &Exit, why: &'a str) -> Outcome<'a> {
     match exit {
@@ -114,6 +118,7 @@ fn nothing_by<'a>(exit: &Exit, why: &'a str) -> Outcome<'a> {
         Exit::Unread(error) if error.kind() == ErrorKind::OutOfMemory => {
             Outcome::Unread("out of memory")
         }
+        Exit::Unread(error) if is_of_no_text(error) => Outcome::Unread(NOT_OPENED),
         _ => Outcome::Unread("read failed"),
     }
 }

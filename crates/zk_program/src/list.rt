@@ -4,7 +4,7 @@ ghost use Rattle.std.specs.Prelude.{◌≡◌, false};
 
 use crate::about::About;
 use crate::exit::Exit;
-use crate::facts::list_facts;
+use crate::facts::{NOT_OPENED, list_facts};
 use crate::listed::Listed;
 use crate::listing::{CodeListing, Listing, leave_out, list_and_report};
 use crate::names::{names_of, read_listed_names};
@@ -16,6 +16,7 @@ use crate::sources::{SourceFile, source_files};
 use crate::told::{out_of_memory, tell_last_line};
 use std::alloc::{AllocError, Global};
 use std::fs::File;
+use zk_command::arguments::NO_TEXT;
 use zk_command::settings::{Asked, Form, Naming, Roots, ShowOptions};
 use zk_named::source_lines::SourceLines;
 use zk_names::names::Names;
@@ -47,6 +48,15 @@ fn list<'a>(
     Listed::of(status, &about)
 }
 
+/// The path of one of several stories, as it is shown.
+fn heading_of(alloc: Global, path: &str) -> Result<String, AllocError> {
+    let shown = Shown(path);
+    if path.contains(NO_TEXT) {
+        return format!(in alloc; "{shown} ({NOT_OPENED})");
+    }
+    format!(in alloc; "{shown}")
+}
+
 /// Lists one of several stories, below its path where lines are shown.
 fn list_one_of_several(
     rt: &HostRuntime,
@@ -61,7 +71,7 @@ fn list_one_of_several(
         Form::Picture => return list_one(rt, path, None, request, counts, counted),
         _ => {}
     }
-    match format!(in rt.alloc(); "{}", Shown(path)) {
+    match heading_of(rt.alloc(), path) {
         Ok(heading) => list_one(rt, path, Some(heading.as_str()), request, counts, counted),
         Err(_) => Listed::nothing(out_of_memory(rt)),
     }

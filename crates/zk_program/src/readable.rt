@@ -18,6 +18,7 @@ use std::alloc::AllocError;
 use zk_command::settings::Form;
 use zk_facts::outcome::Facts;
 use zk_inspect::section::Section;
+use zk_mem::story::OpenError;
 use zk_named::code::{CodeView, facts_of};
 use zk_named::labels::{object_labels, routine_labels};
 use zk_named::source_lines::SourceLines;
@@ -315,6 +316,14 @@ fn exit_with(exit: Exit, misused: bool) -> Exit {
     }
 }
 
+/// Whether a file was found to be no story.
+fn is_refused(exit: &Exit) -> bool {
+    match exit {
+        Exit::Refused(error) => !matches!(error, OpenError::OutOfMemory),
+        _ => false,
+    }
+}
+
 /// Shows what was found, and counts its findings; answers how that ends, or the program's status, where it is told that
 /// the coverage or the names are of another story.
 fn show_found(
@@ -339,7 +348,11 @@ fn show_found(
             }
         }
         (None, exit) => {
-            counts.add_unlisted();
+            if is_refused(&exit) {
+                counts.add_refused();
+            } else {
+                counts.add_unread();
+            }
             Ok(match exit {
                 Exit::Refused(_) | Exit::Unread(_) => {
                     leave_out(about, exit, &mut screen_of(rt, about))

@@ -12,7 +12,6 @@ use crate::exit::Exit;
 use itoa::Buffer;
 use std::alloc::{AllocError, Global};
 use std::io::{self, ErrorKind};
-use zk_command::arguments::NO_TEXT;
 use zk_mem::fault::Fault;
 use zk_mem::memory::ScreenSetup;
 use zk_mem::story::OpenError;
@@ -159,9 +158,6 @@ fn words_on_limit(alloc: Global, limit: Limit, limits: &Limits) -> Result<String
 /// Why a story's file can't be read, in words.
 fn words_on_read(alloc: Global, error: &io::Error, about: &About) -> Result<String, AllocError> {
     let path = Shown(about.path);
-    if about.path.contains(NO_TEXT) {
-        return format!(in alloc; "{path}: its name is no text (UTF-8)");
-    }
     match error.kind() {
         ErrorKind::IsADirectory => format!(in alloc;
             "{path}: it is a folder: `zkit info --recursive` and `zkit check --recursive` search it"

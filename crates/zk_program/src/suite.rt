@@ -17,6 +17,7 @@ use crate::strict::{SeenMisuse, misuses_in_play};
 use crate::told::{out_of_memory, tell_unwritten};
 use std::fs::File;
 use std::io::{self, ErrorKind, Write};
+use zk_command::arguments::NO_TEXT;
 use zk_command::manner::Manner;
 use zk_command::settings::TestOptions;
 use zk_fast::places::{Places, Unnoted};
@@ -717,7 +718,8 @@ fn test_each(
     let mut failed = 0u64;
     for path in paths {
         let path = path.as_str();
-        if !is_tested(path, named) {
+        // one whose name is no text may be a folder with walkthroughs
+        if !is_tested(path, named) && !path.contains(NO_TEXT) {
             continue;
         }
         if test_one(rt, path, suite)? {
@@ -754,7 +756,7 @@ fn test_paths(rt: &HostRuntime, paths: &[&str], suite: &mut Suite<'_>) -> io::Re
     }
     println!(rt; "{passed} passed, {failed} failed")?;
     let status = suite_status(passed, failed, files.all);
-    match &suite.cover {
+    match &mut suite.cover {
         Some(cover) => Ok(cover.write(rt, status)),
         None => Ok(status),
     }

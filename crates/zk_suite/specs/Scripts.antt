@@ -12,10 +12,6 @@ use Rattle.std.specs.Str.Lines.{lines}
 abbrev pub mark : List ℕ
 mark = 0xef ∷ 0xbb ∷ 0xbf ∷ []
 
--- bytes are a first part of it, or all of it
-abbrev pub begins_mark : List ℕ → Bool
-begins_mark bytes = starts_with ◌==◌ mark bytes
-
 -- a file without the mark that it may begin with
 abbrev pub unmarked : List ℕ → List ℕ
 unmarked bytes = if starts_with ◌==◌ bytes mark then drop 3 bytes else bytes

@@ -1,20 +1,13 @@
 // The kinds of lines in a walkthrough.
 
 ghost use Rattle.std.specs.Prelude.{◌≡◌, option_map};
-ghost use Rattle.zk_suite.specs.Scripts.{RecordedIsTyped, asked, is_comment, begins_mark, is_set_apart, unmarked};
+ghost use Rattle.zk_suite.specs.Scripts.{RecordedIsTyped, asked, is_comment, is_set_apart, unmarked};
 
 /// A byte order mark.
 const MARK: &[u8] = b"\xef\xbb\xbf";
 
-/// Whether bytes are a first part of a byte order mark, or all of it.
-pub fn is_mark(bytes: &[u8]) -> bool
-    ensures { result ≡ begins_mark bytes.now }
-{
-    MARK.starts_with(bytes)
-}
-
 /// Bytes without the byte order mark that they may begin with.
-pub fn without_mark(bytes: &[u8]) -> &[u8]
+pub(crate) fn without_mark(bytes: &[u8]) -> &[u8]
     ensures { result.now ≡ unmarked bytes.now }
 {
     if bytes.starts_with(MARK) {

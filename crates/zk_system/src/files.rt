@@ -1,12 +1,12 @@
 // Paths: from lists, and of the files in folders.
 
-ghost use Rattle.std.specs.Prelude.{◌≡◌, ◌<◌, ◌^◌, Some, option_map, IfOk, IfSome};
-ghost use Rattle.zk_system.specs.Files.{IsKind, byte_between, within};
+ghost use Rattle.std.specs.Prelude.{◌≡◌, ◌<◌, ◌^◌, Some, not, option_map, IfOk, IfSome};
+ghost use Rattle.zk_system.specs.Files.{IsKind, byte_between, is_folder_name, within};
 
 use crate::reason::tell_reason;
 use crate::shown::Shown;
 use std::alloc::{AllocError, Global};
-use std::fs::{self, File, Metadata};
+use std::fs::{self, File, Files as _, Metadata};
 use std::io::{self, ErrorKind, Read};
 use zk_command::arguments::argument_of;
 
@@ -117,47 +117,43 @@ pub fn paths_listed(rt: &HostRuntime, arguments: &[String]) -> Option<io::Result
     }
 }
 
-/// Adds the names of what a folder has, but for those that are no text, and tells how many these are.
-fn add_names(rt: &HostRuntime, folder: &str, names: &mut Vec<String>) -> io::Result<u64> {
-    let mut left_out = 0u64;
-    for entry in fs::read_dir(rt, folder)? {
-        match entry {
-            Ok(entry) => names.push(String::from_str(rt.alloc(), entry.file_name())?)?,
-            Err(error) if error.kind() == ErrorKind::InvalidFilename => {
-                left_out = left_out.saturating_add(1);
-            }
-            Err(error) => return Err(error),
-        }
-    }
-    Ok(left_out)
-}
-
-/// Tells how many names in a folder are no text, where there are some.
-fn tell_left_out(rt: &HostRuntime, folder: &str, count: u64) {
-    let _ = match count {
-        0 => Ok(()),
-        1 => eprintln!(rt;
-            "zkit: {}: 1 name in it is no text (UTF-8), and left out",
-            Shown(folder)
-        ),
-        _ => eprintln!(rt;
-            "zkit: {}: {count} names in it are no text (UTF-8), and left out",
-            Shown(folder)
-        ),
-    };
-}
-
-/// Puts the paths of what a folder has on a pile, the first one on top, and tells whether each name is a text.
-fn pile_up(rt: &HostRuntime, folder: &str, pile: &mut Vec<String>) -> io::Result<bool> {
+/// The names of what a folder has, each with a zero byte behind it. They may be no text.
+fn names_in(rt: &HostRuntime, folder: &str) -> io::Result<Vec<u8>> {
     let mut names = Vec::new(rt.alloc());
-    let left_out = add_names(rt, folder, &mut names)?;
-    tell_left_out(rt, folder, left_out);
+    let mut piece = [0u8; 4096];
+    // behind a slash a link to a folder is followed
+    let mut dir = rt.open_dir(format!(in rt.alloc(); "{folder}/")?.as_str())?;
+    for _k in 0..u64::MAX {
+        let count = dir.read(&mut piece)?;
+        if count == 0 {
+            break;
+        }
+        names.extend_from_slice(&piece[..count])?;
+    }
+    Ok(names)
+}
+
+/// Whether a name in a folder is that of something else than the folder itself and the one that it is in.
+fn is_within(name: &[u8]) -> bool
+    ensures { result ≡ not (is_folder_name name.now) }
+{
+    !name.is_empty() && name != b".".as_slice() && name != b"..".as_slice()
+}
+
+/// Puts the paths of what a folder has on a pile, the first one on top.
+fn pile_up(rt: &HostRuntime, folder: &str, pile: &mut Vec<String>) -> io::Result<()> {
+    let found = names_in(rt, folder)?;
+    let mut names = found
+        .split(|byte| *byte == 0)
+        .filter(|name| is_within(name))
+        .collect::<Vec<&[u8]>>(rt.alloc())?;
     names.sort_unstable();
     let folder = folder.strip_suffix('/').unwrap_or(folder);
     for name in names.iter().rev() {
+        let name = argument_of(rt.alloc(), name)?;
         pile.push(format!(in rt.alloc(); "{folder}/{name}")?)?;
     }
-    Ok(left_out == 0)
+    Ok(())
 }
 
 /// What stands at a path.
@@ -193,11 +189,12 @@ fn is_followed(rt: &HostRuntime, path: &str, named: &str) -> bool {
 /// error is lack of memory.
 fn open_up(rt: &HostRuntime, folder: &str, pile: &mut Vec<String>) -> io::Result<bool> {
     match pile_up(rt, folder, pile) {
-        Err(error) if error.kind() != ErrorKind::OutOfMemory => {
+        Ok(()) => Ok(true),
+        Err(error) if error.kind() == ErrorKind::OutOfMemory => Err(error),
+        Err(error) => {
             tell_reason(rt, folder, &error);
             Ok(false)
         }
-        all => all,
     }
 }
 
@@ -207,7 +204,8 @@ fn tell_passed_over(rt: &HostRuntime, path: &str) {
 }
 
 /// Adds the files in a folder and in its folders, each folder's by their names in the order of their bytes, and tells
-/// of a folder that can't be read, and of what is no file. Whether all could be read.
+/// of a folder that can't be read, and of what is no file. What has a name that is no text is added too, as the system
+/// tells nothing of it. Whether all could be read.
 fn add_files(rt: &HostRuntime, folder: &str, files: &mut Vec<String>) -> io::Result<bool> {
     let mut all = true;
     let mut pile = Vec::new(rt.alloc());

@@ -1,9 +1,9 @@
-// A saved game is written in the place of the one before, and found again.
+// A file is written in the place of the one before; a saved game is found again.
 
 ghost use Rattle.std.specs.Prelude.{◌≡◌};
 ghost use Rattle.zk_system.specs.SaveFiles.{rights_left};
 
-use crate::beside::{is_at, make_beside};
+use crate::beside::{Meeting, is_at, make_beside, wait_beside};
 use crate::files::read_within;
 use crate::no_game::{NoGame, standing};
 use crate::shown::Shown;
@@ -15,7 +15,7 @@ use std::os::unix::fs::{MetadataExt, PermissionsExt, fchown};
 /// The longest file that is a saved game: what is longer counts as none.
 const MOST_BYTES: u64 = 2_097_152;
 
-/// Where a saved game goes: the file behind the links of its path, and what the system tells of the one that is there.
+/// Where a file goes: the file behind the links of its path, and what the system tells of the one that is there.
 #[derive(Drop)]
 struct SaveTarget {
     path: String,
@@ -93,21 +93,39 @@ fn take_place(rt: &HostRuntime, beside: &str, file: &File, path: &str) -> Result
     Ok(renamed?)
 }
 
-/// Writes a file beside a path, and then gives it that path. Where that fails nothing is left beside it.
-fn replace(rt: &HostRuntime, place: &SaveTarget, bytes: &[u8]) -> Result<bool, NoGame> {
-    // it is the owner's alone until it has the old file's rights
-    let mode = if place.old.is_some() { 0o600 } else { 0o666 };
-    let (beside, mut file) = make_beside(rt, place.path.as_str(), mode)?;
-    match write_whole(&mut file, place.old.as_ref(), bytes) {
-        Ok(is_handed_over) => {
-            take_place(rt, beside.as_str(), &file, place.path.as_str())?;
-            Ok(is_handed_over)
-        }
-        Err(error) => {
-            let _ = fs::remove_file(rt, beside.as_str());
-            Err(NoGame::Failed(error))
+impl SaveTarget {
+    /// The mode of the file beside it, which is the owner's alone until it has the old file's rights.
+    fn mode_beside(&self) -> u32 {
+        if self.old.is_some() { 0o600 } else { 0o666 }
+    }
+
+    /// Writes the file beside it, and then gives that its path. Where that fails nothing is left beside it.
+    fn replace(
+        &self,
+        rt: &HostRuntime,
+        beside: &str,
+        file: &mut File,
+        bytes: &[u8],
+    ) -> Result<bool, NoGame> {
+        match write_whole(file, self.old.as_ref(), bytes) {
+            Ok(is_handed_over) => {
+                take_place(rt, beside, file, self.path.as_str())?;
+                Ok(is_handed_over)
+            }
+            Err(error) => {
+                let _ = fs::remove_file(rt, beside);
+                Err(NoGame::Failed(error))
+            }
         }
     }
+}
+
+/// Keeps bytes in a file, unless another play is writing to it.
+fn replace(rt: &HostRuntime, path: &str, bytes: &[u8]) -> Result<bool, NoGame> {
+    let place = save_place(rt, path)?;
+    let mode = place.mode_beside();
+    let (beside, mut file) = make_beside(rt, place.path.as_str(), mode, Meeting::GivesUp)?;
+    place.replace(rt, beside.as_str(), &mut file, bytes)
 }
 
 /// What is kept in a file.
@@ -126,6 +144,14 @@ impl Kept {
         }
     }
 
+    /// The words where another play is writing to it.
+    fn is_busy(self) -> &'static str {
+        match self {
+            Kept::Game => "another play is saving to it",
+            Kept::List => "another zkit is writing to it",
+        }
+    }
+
     /// The words where it was kept, and the file is not whose it was.
     fn kept_otherwise(self) -> &'static str {
         match self {
@@ -135,23 +161,84 @@ impl Kept {
     }
 }
 
-/// Keeps bytes in a file, in place of what it had, and tells why where it can't, or where the file has another owner or
-/// group than before.
-pub fn keep(rt: &HostRuntime, path: &str, bytes: &[u8], what: Kept) -> bool {
-    let kept = match save_place(rt, path) {
-        Ok(place) => replace(rt, &place, bytes),
-        Err(error) => Err(error),
-    };
-    match &kept {
+/// Tells why a file was not kept, or that it has another owner or group than before, and answers whether it was kept.
+fn tell_kept(rt: &HostRuntime, path: &str, kept: &Result<bool, NoGame>, what: Kept) -> bool {
+    match kept {
         Ok(true) => {}
         Ok(false) => {
             let _ = eprintln!(rt; "zkit: {}: {}", Shown(path), what.kept_otherwise());
+        }
+        Err(NoGame::Busy) => {
+            let _ = eprintln!(rt;
+                "zkit: {}: {}{}",
+                Shown(path),
+                what.not_kept(),
+                what.is_busy()
+            );
         }
         Err(error) => {
             let _ = eprintln!(rt; "zkit: {}: {}{}", Shown(path), what.not_kept(), error);
         }
     }
     kept.is_ok()
+}
+
+/// Keeps bytes in a file, in place of what it had, and tells why where it can't, or where the file has another owner or
+/// group than before.
+pub fn keep(rt: &HostRuntime, path: &str, bytes: &[u8], what: Kept) -> bool {
+    tell_kept(rt, path, &replace(rt, path, bytes), what)
+}
+
+/// A file that no other play writes to before it is kept or let go.
+#[derive(Drop)]
+pub struct HeldFile<'a> {
+    path: &'a str,
+    place: SaveTarget,
+    beside: String,
+    file: File,
+}
+
+/// Holds the file at a path once no other play does. What stands there is looked at anew then.
+fn held<'a>(rt: &HostRuntime, path: &'a str) -> Result<HeldFile<'a>, NoGame> {
+    let mut place = save_place(rt, path)?;
+    let (beside, file) = wait_beside(rt, place.path.as_str(), place.mode_beside())?;
+    place.old = fs::metadata(rt, place.path.as_str()).ok();
+    Ok(HeldFile {
+        path,
+        place,
+        beside,
+        file,
+    })
+}
+
+/// Waits until no other play writes to the file at a path, and holds it; none where it is told why it can't be held.
+pub fn hold<'a>(rt: &HostRuntime, path: &'a str) -> Option<HeldFile<'a>> {
+    match held(rt, path) {
+        Ok(held) => Some(held),
+        Err(error) => {
+            let _ = tell_kept(rt, path, &Err(error), Kept::List);
+            None
+        }
+    }
+}
+
+impl HeldFile<'_> {
+    /// Keeps bytes in the file, as `keep` does.
+    pub fn keep(self, rt: &HostRuntime, bytes: &[u8]) -> bool {
+        let HeldFile {
+            path,
+            place,
+            beside,
+            mut file,
+        } = self;
+        let kept = place.replace(rt, beside.as_str(), &mut file, bytes);
+        tell_kept(rt, path, &kept, Kept::List)
+    }
+
+    /// Leaves the file as it is.
+    pub fn let_go(self, rt: &HostRuntime) {
+        let _ = fs::remove_file(rt, self.beside.as_str());
+    }
 }
 
 /// The bytes of a file, unless it is longer than a saved game may be.
