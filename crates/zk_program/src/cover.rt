@@ -186,8 +186,9 @@ pub fn union_text(
 #[derive(Drop)]
 pub struct CoverFile<'a> {
     path: &'a str,
-    /// The line of the story.
+    /// The line of the story, and its length.
     story: Vec<u8>,
+    length: u32,
     pub cover: Cover,
 }
 
@@ -199,7 +200,12 @@ impl<'a> CoverFile<'a> {
         let Ok(cover) = Cover::new(rt.alloc(), memory.len() as usize) else {
             return Err(out_of_memory(rt));
         };
-        let file = CoverFile { path, story, cover };
+        let file = CoverFile {
+            path,
+            story,
+            length: memory.len(),
+            cover,
+        };
         file.addresses(rt)?;
         Ok(file)
     }
@@ -211,7 +217,7 @@ impl<'a> CoverFile<'a> {
             return Ok(Vec::new(rt.alloc()));
         }
         let covered = covered_in(rt, self.path)?;
-        covered.see_line(rt, self.story.as_slice(), self.cover.marks().len() as u32)?;
+        covered.see_line(rt, self.story.as_slice(), self.length)?;
         Ok(covered.addresses)
     }
 
