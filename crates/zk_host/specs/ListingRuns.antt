@@ -1,5 +1,5 @@
 -- Listings of a play's story, whole and in parts.
-use Rattle.std.specs.Prelude.{◌≡◌, ◌≤◌, ◌<◌, ◌⊎◌, ◌++◌, ◌==◌, ⊥, ℕ, Bool, true, false, List, [], length, drop}
+use Rattle.std.specs.Prelude.{◌≡◌, ◌≤◌, ◌<◌, ◌⊎◌, ◌++◌, ◌==◌, ℕ, Bool, true, false, List, [], length, drop}
 use Rattle.std.specs.Prelude.{Option, Some, None, Result, Ok, Err}
 use Rattle.std.specs.Global.{Box}
 use Rattle.zk_mem.specs.Fresh.{fresh, plain_setup}
@@ -101,9 +101,9 @@ abbrev pub IsListedFor : ℕ → Play → Play → Result Bool Refusal → Type 
 IsListedFor number old new result = IsListedNamed (listing_numbered number) number old new result
 
 -- the texts of a listing's parts, each taken before the next one, one after another
-pub data IsListedThrough (run : ListingRun) : List ℕ → Type 0 where
-  Last : (next : ListingRun) (text : List ℕ) → IsGoneOn run next [] text end.Over → IsListedThrough run text
-  Part : (next : ListingRun) (text others : List ℕ) → IsGoneOn run next [] text end.Paused
+pub data IsListedThrough : ListingRun → List ℕ → Type 0 where
+  Last : (run next : ListingRun) (text : List ℕ) → IsGoneOn run next [] text end.Over → IsListedThrough run text
+  Part : (run next : ListingRun) (text others : List ℕ) → IsGoneOn run next [] text end.Paused
       → IsListedThrough next others → IsListedThrough run (text ++ others)
 
 -- the parts of a listing are the listing

@@ -1,6 +1,6 @@
 // Listings of a story, as text that is taken in parts.
 
-ghost use Rattle.std.specs.Prelude.{◌≡◌, ◌≤◌, ◌∷◌, ◌++◌, ◌⊎◌, [], false, min, IfErr, IfOk, OnOk, OnErr, is_err, length};
+ghost use Rattle.std.specs.Prelude.{◌≡◌, ◌≤◌, ◌<◌, ◌∷◌, ◌++◌, ◌⊎◌, [], false, min, IfErr, IfOk, OnOk, OnErr, is_err, length};
 ghost use Rattle.zk_inspect.specs.Facts.{AreNone, GaveBy};
 ghost use Rattle.zk_inspect.specs.Lines.{lines_of};
 ghost use Rattle.zk_host.specs.Listings.{AreListed, AreSomeListed, IsListing, IsPart, IsUnlisted, IsCut, fact_words};
@@ -17,10 +17,10 @@ use zk_inspect::check::finding_lines::list_findings;
 use zk_inspect::fact::{Fact, FactList, FactWriter};
 use zk_inspect::line_text::line_text;
 use zk_inspect::listing::{list_reached, list_section};
-use zk_inspect::plain_text::PlainText;
+use zk_inspect::plain_text::write_fact;
 use zk_inspect::section::Section;
 use zk_mem::memory::Memory;
-use zk_term::line_writer::TargetWriter;
+use zk_term::line_writer::{LineWriter, TargetWriter};
 use zk_term::target::Failed;
 use zk_text::walked::words_walked;
 
@@ -133,18 +133,27 @@ fn fact_words(memory: &Memory, fact: Fact, most: u32) -> u32
     }
 }
 
-/// Writes the line of a fact.
+/// Writes the line of a fact, and its end.
+fn put_line<P: LineWriter>(memory: &Memory, fact: Fact, writer: &mut P)
+    ensures { P.wrote writer.old writer.new (lines_of false memory.now (fact ∷ [])) }
+{
+    write_fact(writer, memory, false, fact);
+    writer.write(b"\n");
+}
+
+/// Writes the line of a fact to a target, or a first part of it.
 fn write_line(memory: &Memory, fact: Fact, target: &mut Bounded) -> Result<(), Failed>
     ensures whole { OnOk result
         (target.new.text.bytes ≡ target.old.text.bytes ++ lines_of false memory.now (fact ∷ [])) }
     ensures cut { OnErr result
         (IsCut target.old.text.bytes target.new.text.bytes (lines_of false memory.now (fact ∷ []))) }
-    ensures bound { target.new.most ≡ target.old.most }
 {
     let mut writer = TargetWriter::new(target);
-    let mut text = PlainText::new(memory, false, &mut writer);
-    text.write(fact);
-    writer.finish()
+    put_line(memory, fact, &mut writer);
+    match writer.finish() {
+        Ok(()) => Ok(()),
+        Err(Failed) => Err(Failed),
+    }
 }
 
 /// A step stands for a word of text that is looked at, for a byte of a line, or for as much work otherwise. So many a
@@ -187,8 +196,8 @@ pub(crate) fn write_lines(
     target: &mut Bounded,
 ) -> Part
     ensures part { IsPart memory.now facts.now words target.old.text.bytes target.new.text.bytes result }
+    ensures few { result.lines ≤ length facts.now }
     ensures some { 0 < steps → result.end ≡ LinesEnd.Paused → 0 < result.lines }
-    ensures bound { target.new.most ≡ target.old.most }
 {
     let mut part = Part {
         lines: 0,
@@ -207,14 +216,18 @@ pub(crate) fn write_lines(
             return part;
         }
         let before = target.text.len();
-        if write_line(memory, *fact, target).is_err() {
-            part.end = LinesEnd::Cut;
-            return part;
+        match write_line(memory, *fact, target) {
+            Ok(()) => {}
+            Err(Failed) => {
+                part.end = LinesEnd::Cut;
+                return part;
+            }
         }
         part.lines += 1;
         part.words -= count;
         let line = target.text.len().saturating_sub(before);
-        used = used.saturating_add(steps_of(*fact) + count as usize).saturating_add(line);
+        used = used.saturating_add(steps_of(*fact)).saturating_add(count as usize);
+        used = used.saturating_add(line);
     }
     part
 }

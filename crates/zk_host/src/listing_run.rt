@@ -52,7 +52,6 @@ impl ListingRun {
     pub(crate) fn go_on(&mut self, target: &mut Bounded, steps: usize) -> LinesEnd
         ensures part { IsGoneOn self.old self.new target.old.text.bytes target.new.text.bytes result }
         ensures some { 0 < steps → result ≡ LinesEnd.Paused → self.old.next < self.new.next }
-        ensures bound { target.new.most ≡ target.old.most }
     {
         let from = self.next.min(self.facts.len());
         let part = write_lines(&self.memory, &self.facts[from..], self.words, steps, target);

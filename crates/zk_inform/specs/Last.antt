@@ -21,4 +21,4 @@ last_of_two a b c [] gs h k = k ∙ ap (λ (x : ℕ). last_object x gs) h
 last_of_two a b c (f ∷ fs) gs h k = last_of_two (object_or f a) b c fs gs h k
 
 pub never_late : (a : ℕ) (fs : List Fact) → false ≡ true → a ≡ last_object a fs
-never_late a fs no = absurd cc
+never_late a fs is = absurd cc
