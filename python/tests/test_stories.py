@@ -101,7 +101,8 @@ class Listings(unittest.TestCase):
             raise KeyboardInterrupt
 
         # half a million instructions of a byte
-        story = Story(bytes([8, 0, 0, 0, 0, 64, 0, 64]) + bytes(6) + bytes([0, 64]) + bytes(48) + b"\xb4" * (524_288 - 64))
+        header = bytes([8, 0, 0, 0, 0, 64, 0, 64]) + bytes(6) + bytes([0, 64]) + bytes(48)
+        story = Story(header + b"\xb4" * (524_288 - 64))
         before = signal.signal(signal.SIGALRM, stop)
         try:
             signal.setitimer(signal.ITIMER_REAL, 0.05)

@@ -147,8 +147,8 @@ through_left run text (IsListedThrough.Part _ next t others h rest) =
     let m = run.memory in
     let same : next.memory ≡ m = ap (λ (r : ListingRun). r.memory) h.beside in
     let behind : others ≡ lines_of false m (drop h.lines (facts_left run)) = through_left next others rest
-        ∙ ap (λ (x : MemoryMap). lines_of false x (facts_left next)) same
-        ∙ ap (λ (l : List Fact). lines_of false m l) h.left in
+    ∙ ap (λ (x : MemoryMap). lines_of false x (facts_left next)) same
+    ∙ ap (λ (l : List Fact). lines_of false m l) h.left in
     ap (λ (l : List ℕ). l ++ others) h.part.text
     ∙ ap (λ (l : List ℕ). lines_of false m (take h.lines (facts_left run)) ++ l) behind
     ∙ sym (lines_joined m (take h.lines (facts_left run)) (drop h.lines (facts_left run)))
@@ -158,6 +158,6 @@ pub parts_whole : (l : Listing) (number : ℕ) (m : MemoryMap) (run : ListingRun
     → IsBegun l number m run → IsListedThrough run text → IsListing l m text
 parts_whole l number m run text h through =
     let whole : text ≡ lines_of false m run.facts.items = through_left run text through
-        ∙ ap (λ (x : MemoryMap). lines_of false x (facts_left run)) h.memory
-        ∙ ap (λ (n : ℕ). lines_of false m (drop n run.facts.items)) h.none in
+    ∙ ap (λ (x : MemoryMap). lines_of false x (facts_left run)) h.memory
+    ∙ ap (λ (n : ℕ). lines_of false m (drop n run.facts.items)) h.none in
     (run.facts.items, h.facts, whole)

@@ -1,6 +1,7 @@
 // Listings of a story, as text that is taken in parts.
 
-ghost use Rattle.std.specs.Prelude.{◌≡◌, ◌≤◌, ◌<◌, ◌∷◌, ◌++◌, ◌⊎◌, [], false, min, IfErr, IfOk, OnOk, OnErr, is_err, length};
+ghost use Rattle.std.specs.Prelude.{◌≡◌, ◌≤◌, ◌<◌, ◌∷◌, ◌++◌, ◌⊎◌, [], false, min, IfErr, IfOk, OnOk, OnErr};
+ghost use Rattle.std.specs.Prelude.{is_err, length};
 ghost use Rattle.zk_inspect.specs.Facts.{AreNone, GaveBy};
 ghost use Rattle.zk_inspect.specs.Lines.{lines_of};
 ghost use Rattle.zk_host.specs.Listings.{AreListed, AreSomeListed, IsListing, IsPart, IsUnlisted, IsCut, fact_words};
@@ -226,7 +227,9 @@ pub(crate) fn write_lines(
         part.lines += 1;
         part.words -= count;
         let line = target.text.len().saturating_sub(before);
-        used = used.saturating_add(steps_of(*fact)).saturating_add(count as usize);
+        used = used
+            .saturating_add(steps_of(*fact))
+            .saturating_add(count as usize);
         used = used.saturating_add(line);
     }
     part
@@ -246,7 +249,13 @@ pub(crate) fn list(
 {
     let facts = facts_of(alloc, memory, listing)?;
     let mut target = Bounded::new(Text::new(alloc), most);
-    let part = write_lines(memory, facts.as_slice(), MOST_WORDS, usize::MAX, &mut target);
+    let part = write_lines(
+        memory,
+        facts.as_slice(),
+        MOST_WORDS,
+        usize::MAX,
+        &mut target,
+    );
     if most < target.text.len() {
         return Err(Refusal::TooLong);
     }

@@ -10,6 +10,6 @@ returns-then-most-len-clause-refused c =
     let after = c.write_lines-part.new.target.text.bytes in
     let longer : c.args.most < length after = search rules in
     let is : IsPartBy part.end c.args.memory.now c.in_ok-facts.facts.items part.lines 1048576 part.words [] after =
-        search rules in
+    search rules in
     longer_part c.args.listing c.args.memory.now c.in_ok-facts.facts.items part.end part.lines 1048576 part.words
     c.args.most after c.in_ok-facts.ensures.facts is longer

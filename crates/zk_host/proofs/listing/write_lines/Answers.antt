@@ -34,7 +34,7 @@ loop-fact-preserved c =
     let index = c.loop-fact.invariant.index in
     let inside = c.loop-fact-test.true in
     let few : c.fact_words-count.result ≤ min c.loop-fact.part.words 131072 =
-        let test = c.if-count-min.false in let is = c.min.ensures in omega (arith, test, is) in
+    let test = c.if-count-min.false in let is = c.min.ensures in omega (arith, test, is) in
     let lt : c.loop-fact.part.lines < length facts = omega (arith, index, inside) in
     record {
       written = one_written c.args.memory.now facts c.loop-fact.part.lines c.args.words

@@ -11,7 +11,7 @@ returns-clause-part c =
     let part = c.write_lines-part.result in
     let from : c.min-from.result ≡ min c.args.self.now.next (length all) = search rules in
     let left = slice_rest c.deref.result.now c.min-from.result ∙ ap (drop c.min-from.result) c.deref.ensures.value
-        ∙ ap (λ (k : ℕ). drop k all) from ∙ drop_min c.args.self.now.next all in
+    ∙ ap (λ (k : ℕ). drop k all) from ∙ drop_min c.args.self.now.next all in
     record {
       lines = part.lines;
       part = subst (λ (fs : List Fact). IsPartBy part.end c.args.self.now.memory fs part.lines
