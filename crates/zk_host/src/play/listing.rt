@@ -143,7 +143,8 @@ impl Play {
         mut run: Box<ListingRun>,
         steps: usize,
     ) -> Result<bool, Refusal>
-        requires { 0 < steps }
+        requires some { 0 < steps }
+        requires taken { self.now.run ≡ None }
         ensures { IsListedOn run.value (record self.old { run = None }) self.new result }
     {
         let text = mem::replace(&mut self.listing, Text::new(alloc));

@@ -1,5 +1,4 @@
-use Rattle.std.proofs.Common.{rules, ◌≡◌, ◌<◌, [], length, sym, subst, List, ℕ}
-use Rattle.zk_inspect.specs.declared.fact.Fact.{Fact}
+use Rattle.std.proofs.Common.{rules, ◌<◌, [], length}
 use Rattle.zk_host.specs.Listings.{IsPartBy}
 use Rattle.zk_host.proofs.Listings.{longer_part}
 use Rattle.zk_host.proofs.listing.list.Goals as goal

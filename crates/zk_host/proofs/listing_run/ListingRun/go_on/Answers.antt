@@ -1,4 +1,4 @@
-use Rattle.std.proofs.Common.{rules, ◌≡◌, ◌∙◌, ◌-◌, ℕ, List, drop, take, length, min, refl, subst, ap}
+use Rattle.std.proofs.Common.{rules, ◌≡◌, ◌∙◌, ℕ, List, drop, length, min, refl, subst, ap}
 use Rattle.std.proofs.lemmas.List.{drop_min}
 use Rattle.zk_inspect.specs.declared.fact.Fact.{Fact}
 use Rattle.zk_host.specs.Listings.{IsPartBy}
