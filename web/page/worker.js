@@ -70,6 +70,9 @@ function replace(open) {
     game = other;
 }
 
+/** @type {Promise<string | null>} The listing that was asked for last. */
+let last = Promise.resolve(null);
+
 /**
  * A listing of a game's story, made in parts between which messages come in; null where it is refused.
  * @param {any} it
@@ -87,6 +90,15 @@ async function listed(it, listing) {
             return text;
         await breath();
     }
+}
+
+/**
+ * A listing once those are made that were asked for before: a game goes on with one listing at a time.
+ * @param {string} listing
+ */
+function listedNext(listing) {
+    last = last.catch(() => null).then(() => listed(game, listing));
+    return last;
 }
 
 /**
@@ -288,7 +300,7 @@ const CALLS = {
     run: ({ answer }) => run(answer),
     replay: ({ answers }) => replay(answers),
     image: () => game.image(),
-    list: ({ listing }) => listed(game, listing),
+    list: ({ listing }) => listedNext(listing),
 };
 
 page.onmessage = async (/** @type {MessageEvent} */ event) => {
